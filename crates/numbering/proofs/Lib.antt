@@ -1,0 +1,3 @@
+pub mod After
+mod LinearSettles
+mod RingSettles

@@ -1,0 +1,15 @@
+-- The number kinds: the number of a value. Assumes nothing.
+use mathlib.Core.Bool.{Bool, cond}
+use Prim.Native.Nat.{ℕ}
+use lib.Dec.{ltb}
+use Rattle.numbering.specs.declared.kind.Zero.{Zero}
+use Rattle.std.specs.declared.option.Option.{Option}
+use Rattle.std.specs.declared.option.Option.the-variants.{None, Some}
+
+-- a number where a test holds, else none
+abbrev pub given : {Num : Type 0} → Bool → Num → Option Num
+given b x = cond b (Some x) None
+
+-- the only number of free
+abbrev pub nought : Zero
+nought = record {}
