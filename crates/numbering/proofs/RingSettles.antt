@@ -7,6 +7,7 @@ use native.Mathlib.Nat.{mod-eq-of-lt, mod-add-mod, add-mod-right}
 use native.Mathlib.Omega.{arith}
 use borrow.Author.Tests.{le-leb, leb-true, leb-false, eqb-true, eq-eqb, ne-eqb}
 use lib.Dec.{eqb, leb}
+use Rattle.std.proofs.shelf.Tests.{and-from}
 use Rattle.std.specs.declared.option.Option.the-variants.{Some}
 use Rattle.numbering.specs.Four.{ring, distance, half, circular, circular-fresh, circular-catch-up, differs, differentiated}
 use Rattle.numbering.specs.Meaning.{after, Settles}
@@ -15,10 +16,6 @@ use Rattle.numbering.proofs.After.{after-at}
 -- the number k steps ahead of s
 abbrev ahead : ℕ → ℕ → ℕ → ℕ
 ahead smax s k = (s + k) % (smax + 1)
-
-both : (a b : Bool) → a ≡ true → b ≡ true → (a && b) ≡ true
-both true b p q = q
-both false b p q = p
 
 module _ (smax : ℕ) where
   at-itself : (s : ℕ) → s ≤ smax → s ≡ ahead smax s 0
@@ -62,7 +59,7 @@ module _ (smax : ℕ) where
   circular-ahead : (s k : ℕ) → s ≤ smax → 1 ≤ k → k ≤ half smax → circular-fresh smax (ahead smax s k) s ≡ true
   circular-ahead s k l low high =
       let d = distance-ahead s k l (omega arith) in
-      both _ _ (le-leb 1 _ (omega (arith, d))) (le-leb _ (half smax) (omega (arith, d)))
+      and-from _ _ (le-leb 1 _ (omega (arith, d))) (le-leb _ (half smax) (omega (arith, d)))
 
   circular-near : (x k : ℕ) → x ≤ smax → k ≤ half smax → (circular-fresh smax (ahead smax x k) x ≡ true) ⊎ (ahead smax x k ≡ x)
   circular-near x zero l h = inr (sym (at-itself x l))

@@ -2,10 +2,10 @@
 ghost use mathlib.Core.Path.{_≡_};
 ghost use mathlib.Core.Bool.{Bool, true};
 ghost use Prim.Native.Nat.{ℕ, _^_};
-ghost use lib.Dec.{eqb, ltb};
+ghost use lib.Dec.{ltb};
 ghost use Rattle.std.specs.declared.option.Option.{Option};
 ghost use Rattle.std.specs.declared.option.Option.the-variants.{Some};
-ghost use Rattle.numbering.specs.Kinds.{given, nought};
+ghost use Rattle.numbering.specs.Kinds.{below, zero-of};
 
 // A number has a value of 32 bits, for files and printing. The logic's numbers have no end, so
 // `among` says which of them the kind holds.
@@ -37,7 +37,7 @@ pub impl NumberKind for Zero as ZeroKind {
 
     ghost worth = { λ _. 0 };
 
-    ghost of = { λ v. given (eqb v 0) nought };
+    ghost of = { zero-of };
 
     fn value(self) -> u32 {
         0
@@ -53,7 +53,7 @@ pub impl NumberKind for u8 as U8Kind {
 
     ghost worth = { λ x. x };
 
-    ghost of = { λ v. given (ltb v 256) v };
+    ghost of = { below 256 };
 
     fn value(self) -> u32 {
         u32::from(self)
@@ -69,7 +69,7 @@ pub impl NumberKind for u32 as U32Kind {
 
     ghost worth = { λ x. x };
 
-    ghost of = { λ v. given (ltb v (2 ^ 32)) v };
+    ghost of = { below (2 ^ 32) };
 
     fn value(self) -> u32 {
         self

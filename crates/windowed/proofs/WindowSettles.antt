@@ -6,23 +6,12 @@ use Prim.Native.Nat.{ℕ, _+_, _-_, _*_, _<_, _≤_}
 use native.Mathlib.Omega.{arith}
 use borrow.Author.Tests.{lt-ltb, le-ltb, ltb-true, ltb-false}
 use lib.Dec.{ltb}
+use Rattle.std.proofs.shelf.Tests.{or-from, or-left, or-right}
 use Rattle.std.specs.declared.option.Option.the-variants.{Some}
 use Rattle.numbering.specs.Meaning.{after, Settles}
 use Rattle.numbering.proofs.After.{given-some, after-at}
 use Rattle.windowed.specs.declared.serial.Serial.{Serial}
 use Rattle.windowed.specs.Window.{serial, window-fresh, windowed, window-catch-up}
-
-or-false : (a b : Bool) → a ≡ false → b ≡ false → (a || b) ≡ false
-or-false true b p q = p
-or-false false b p q = q
-
-or-left : (a b : Bool) → a ≡ true → (a || b) ≡ true
-or-left true b p = refl
-or-left false b p = ap (λ (c : Bool). c || b) p
-
-or-right : (a b : Bool) → b ≡ true → (a || b) ≡ true
-or-right true b p = refl
-or-right false b p = p
 
 module _ (window : ℕ) where
   window-after : (s : Serial) (i : ℕ) (t : Serial) → after (windowed window) i s ≡ Some t → t .value ≡ s .value + i
@@ -56,7 +45,7 @@ module _ (window : ℕ) where
 
 pub window-settles : (window : ℕ) → 1 ≤ window → Settles (windowed window) window (window-catch-up window)
 window-settles window some = record {
-  itself = λ s l. or-false _ _ (le-ltb (s .value) (s .value) (omega arith)) (le-ltb window (s .value - s .value) (omega arith));
+  itself = λ s l. or-from _ _ (le-ltb (s .value) (s .value) (omega arith)) (le-ltb window (s .value - s .value) (omega arith));
   some = some;
   patience = λ s t i l low high e. ahead-fresh window t s (omega (arith, window-after window s i t e));
   enough = λ x b lx lb. let p = catches window x b in omega (arith, p .1);

@@ -1,0 +1,15 @@
+// What the program `bound` is asked, and what it answers, as text.
+mod complaint;
+mod reading;
+mod replies;
+mod writing;
+
+pub use complaint::Complaint;
+pub use complaint::ComplaintDisplay;
+pub use complaint::ComplaintFromFault;
+pub use complaint::ComplaintFromFmt;
+pub use reading::lawful_in;
+pub use reading::number_in;
+pub use replies::report;
+pub use writing::LISTED;
+pub use writing::write_forecast;
