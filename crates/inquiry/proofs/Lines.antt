@@ -25,7 +25,7 @@ module _ {Num : Type 0} {worth : Num → ℕ} {before : List ℕ} {floods : List
         sym (append-nil text) ∙ ap (λ (rest : List (Heard Num)). text ++ flood-lines worth (suc i) rest) (sym none) ∙ old .adds
 
     pub lines-more : (flood : Heard Num) (more : List ℕ) → i < length floods → flood ≡ getD floods i flood → more ≡ text ++ flood-line worth (i + 1) flood → Lines worth before floods (i + 1) more
-    lines-more flood more h read wrote = 
+    lines-more flood more h read wrote =
         let rest = flood-lines worth (suc (suc i)) (drop (i + 1) floods) in
         let cut : drop i floods ≡ flood ∷ drop (i + 1) floods = drop-more floods i flood h ∙ ap (λ (f : Heard Num). f ∷ drop (i + 1) floods) (sym read) in
         let line : more ≡ text ++ flood-line worth (suc i) flood = wrote ∙ ap (λ (k : ℕ). text ++ flood-line worth k flood) (add-one i) in

@@ -1,7 +1,7 @@
 -- What `bound` answers to its words. Assumes nothing.
 use mathlib.Core.Path.{_≡_}
 use mathlib.Core.Bool.{cond}
-use mathlib.Core.List.{List, [], _∷_}
+use mathlib.Core.List.{List}
 use Prim.Native.Nat.{ℕ, _^_, min}
 use lib.Chars.{codes}
 use Rattle.std.specs.declared.option.Option.{Option}
@@ -20,7 +20,7 @@ use Rattle.inquiry.specs.declared.complaint.Complaint.{Complaint}
 use Rattle.inquiry.specs.declared.complaint.Complaint.the-variants.{Words, Numbering, Smax, Held, Base, Memory}
 use Rattle.inquiry.specs.declared.reading.Name.{Name}
 use Rattle.inquiry.specs.declared.reading.Name.the-variants.{Free, Linear, Circular, Differentiated}
-use Rattle.inquiry.specs.Reading.{lawful-in, smax-in, named}
+use Rattle.inquiry.specs.Reading.{lawful-in, smax-in, named, first-of, pair-of}
 use Rattle.inquiry.specs.Written.{listed, forecast-text, free-text}
 
 -- a text, or why there is none
@@ -42,38 +42,30 @@ abbrev pub settling : {Num : Type 0} → Meaning Num → ℕ → (Num → Num �
 settling m G C of worth held base =
     elim (lawful-in m of held) [ None ↦ Err Held | Some x ↦ elim (lawful-in m of base) [ None ↦ Err Base | Some b ↦ Ok (forecast-text worth G (C x b) (hearing m (min (C x b) listed) x b)) ] ]
 
--- free does not settle, whatever lawful numbers are held
+-- two words, no fewer and no more
+abbrev pub two : (List ℕ → List ℕ → Answer) → List (List ℕ) → Answer
+two f words = elim (pair-of words) [ None ↦ Err Words | Some p ↦ f (p .0) (p .1) ]
+
+-- an smax, and then the words that a numbering over 0 to smax takes
+abbrev pub after-smax : (ℕ → List (List ℕ) → Answer) → List (List ℕ) → Answer
+after-smax f words = elim (first-of words) [ None ↦ Err Words | Some p ↦ elim (smax-in (p .0)) [ None ↦ Err Smax | Some smax ↦ f smax (p .1) ] ]
+
+-- free does not settle, whichever lawful numbers are held
 abbrev pub free-answer : List ℕ → List ℕ → Answer
 free-answer held base = elim (lawful-in free zero-of held) [ None ↦ Err Held | Some x ↦ elim (lawful-in free zero-of base) [ None ↦ Err Base | Some b ↦ Ok free-text ] ]
 
-abbrev pub linear-answer : List ℕ → List ℕ → Answer
-linear-answer = settling linear linear-patience linear-catch-up (below (2 ^ 32)) (λ x. x)
+abbrev pub circular-answer : ℕ → List (List ℕ) → Answer
+circular-answer smax = two (settling (circular smax) (half smax) (λ x b. circular-catch-up smax) (below 256) (λ x. x))
 
-abbrev pub circular-answer : List ℕ → List ℕ → List ℕ → Answer
-circular-answer smax held base = elim (smax-in smax) [ None ↦ Err Smax | Some s ↦ settling (circular s) (half s) (λ x b. circular-catch-up s) (below 256) (λ x. x) held base ]
-
-abbrev pub differentiated-answer : List ℕ → List ℕ → List ℕ → Answer
-differentiated-answer smax held base = elim (smax-in smax) [ None ↦ Err Smax | Some s ↦ settling (differentiated s) s (λ x b. s) (below 256) (λ x. x) held base ]
-
--- two words are wanted
-abbrev pub two : (List ℕ → List ℕ → Answer) → List (List ℕ) → Answer
-two f [] = Err Words
-two f (v ∷ []) = Err Words
-two f (v ∷ w ∷ []) = f v w
-two f (v ∷ w ∷ x ∷ more) = Err Words
-
--- three words are wanted
-abbrev pub three : (List ℕ → List ℕ → List ℕ → Answer) → List (List ℕ) → Answer
-three f [] = Err Words
-three f (u ∷ words) = two (f u) words
+abbrev pub differentiated-answer : ℕ → List (List ℕ) → Answer
+differentiated-answer smax = two (settling (differentiated smax) smax (λ x b. smax) (below 256) (λ x. x))
 
 abbrev pub answer-named : Name → List (List ℕ) → Answer
 answer-named Free = two free-answer
-answer-named Linear = two linear-answer
-answer-named Circular = three circular-answer
-answer-named Differentiated = three differentiated-answer
+answer-named Linear = two (settling linear linear-patience linear-catch-up (below (2 ^ 32)) (λ x. x))
+answer-named Circular = after-smax circular-answer
+answer-named Differentiated = after-smax differentiated-answer
 
--- the whole answer: a numbering's name comes first
+-- Words are read from left to right, the numbering's name first, and the first that is wrong is told.
 abbrev pub answer : List (List ℕ) → Answer
-answer [] = Err Words
-answer (name ∷ words) = elim (named name) [ None ↦ Err Numbering | Some n ↦ answer-named n words ]
+answer words = elim (first-of words) [ None ↦ Err Words | Some p ↦ elim (named (p .0)) [ None ↦ Err Numbering | Some n ↦ answer-named n (p .1) ] ]

@@ -1,6 +1,6 @@
 -- The number that a word writes. Assumes nothing.
 use mathlib.Core.Bool.{cond, _&&_}
-use mathlib.Core.List.{List}
+use mathlib.Core.List.{List, [], _∷_}
 use Prim.Native.Nat.{ℕ, _^_}
 use lib.Chars.{codes}
 use lib.Dec.{leb, ltb}
@@ -35,3 +35,15 @@ named word =
     (cond (sameBytes word (codes "linear")) (Some Linear)
     (cond (sameBytes word (codes "circular")) (Some Circular)
     (cond (sameBytes word (codes "differentiated")) (Some Differentiated) None)))
+
+-- the first word, and the words after it
+abbrev pub first-of : List (List ℕ) → Option (List ℕ × List (List ℕ))
+first-of [] = None
+first-of (word ∷ words) = Some (word, words)
+
+-- the words, where they are two
+abbrev pub pair-of : List (List ℕ) → Option (List ℕ × List ℕ)
+pair-of [] = None
+pair-of (v ∷ []) = None
+pair-of (v ∷ w ∷ []) = Some (v, w)
+pair-of (v ∷ w ∷ x ∷ more) = None

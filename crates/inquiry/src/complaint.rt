@@ -2,6 +2,7 @@
 ghost use mathlib.Core.Path.{_≡_};
 ghost use Rattle.inquiry.specs.Complaints.{of-fault, memory};
 use hearing::Fault;
+use std::alloc::AllocError;
 use std::fmt;
 
 #[derive(Clone, Copy, PartialEq, Eq, Debug)]
@@ -26,6 +27,14 @@ pub impl From<Fault> for Complaint as ComplaintFromFault {
     }
 }
 
+pub impl From<AllocError> for Complaint as ComplaintFromAlloc {
+    ghost converts = { λ _ r. r ≡ memory };
+
+    fn from(_error: AllocError) -> Complaint {
+        Complaint::Memory
+    }
+}
+
 // Text is written to memory only, so what stops it is want of memory.
 pub impl From<fmt::Error> for Complaint as ComplaintFromFmt {
     ghost converts = { λ _ r. r ≡ memory };
@@ -40,7 +49,8 @@ pub impl fmt::Display for Complaint as ComplaintDisplay {
         f.write_str(
             match *self {
                 Complaint::Words => "too few words, or too many",
-                Complaint::Numbering => "no such numbering: it is free, linear, circular or differentiated",
+                Complaint::Numbering =>
+                    "no such numbering: it is free, linear, circular or differentiated",
                 Complaint::Smax => "SMAX is not a number from 2 to 255",
                 Complaint::Held => "HELD is not a lawful number of the numbering",
                 Complaint::Base => "BASE is not a lawful number of the numbering",

@@ -38,7 +38,10 @@ fn write_flood<K: NumberKind>(text: &mut String, place: u64, flood: &Heard<K>) -
     let number = flood.number.value();
     let verdict = verdict_word(flood.verdict);
     let held = flood.held.value();
-    writeln!(text, "flood {place}: number {number} {verdict}, holds {held}")
+    writeln!(
+        text,
+        "flood {place}: number {number} {verdict}, holds {held}"
+    )
 }
 
 fn write_floods<K: NumberKind>(text: &mut String, floods: &[Heard<K>]) -> fmt::Result
