@@ -83,7 +83,7 @@ module _ {Num : Type 0} (m : Meaning Num) where
 
 module _ {Num : Type 0} (m : Meaning Num) (keeps : Keeps-lawful m) (G : ℕ) (C : Num → Num → ℕ) (settles : Settles m G C) where
   next-fresh : (c s : Num) → Lawful m c → m .next c ≡ Some s → m .fresh s c ≡ true
-  next-fresh c s l e = settles .patience c s 1 l (omega arith) (settles .some) e
+  next-fresh c s l e = settles .patience c s 1 l (omega arith) (settles .least) e
 
   abbrev Fine : Heard Num → Type 0
   Fine flood = (flood .held ≡ flood .number) × (flood .verdict ≡ Accepted)
@@ -154,4 +154,4 @@ module _ {Num : Type 0} (m : Meaning Num) (keeps : Keeps-lawful m) (G : ℕ) (C 
       caught-up : isSome (after m (C x b) b) ≡ true → (j : ℕ) × (suc j ≤ C x b) × Reaches x j b
       caught-up there =
           let p = settles .catch-up x b lx lb there in
-          (p .0, omega (arith, p .1, settles .some), λ t g. p .2 (suc (p .0)) t (omega arith) (omega (arith, settles .some)) g)
+          (p .0, omega (arith, p .1, settles .least), λ t g. p .2 (suc (p .0)) t (omega arith) (omega (arith, settles .least)) g)

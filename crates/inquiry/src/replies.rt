@@ -3,7 +3,6 @@ ghost use mathlib.Core.List.{map};
 ghost use Rattle.std.specs.Of.String.{string-bytes};
 ghost use Rattle.inquiry.specs.Answers.{Says, settling, two, after-smax, free-answer, circular-answer, differentiated-answer, answer};
 use crate::complaint::Complaint;
-use crate::complaint::ComplaintFromAlloc;
 use crate::complaint::ComplaintFromFault;
 use crate::complaint::ComplaintFromFmt;
 use crate::reading::Name;
@@ -30,6 +29,7 @@ use numbering::U8Kind;
 use numbering::U32Kind;
 use numbering::ZeroKind;
 use std::alloc::Global;
+use std::fmt::Write;
 
 // The forecast, as text, for a sensor and a base that hold the numbers in two words.
 pub fn report<N: Settling>(
@@ -109,12 +109,9 @@ fn report_free(heap: Global, held: &str, base: &str) -> Result<String, Complaint
     if lawful_in(&Free, base).is_none() {
         return Err(Complaint::Base);
     }
-    Ok(
-        String::from_str(
-            heap,
-            "free does not settle: it has no patience and no catch-up count\n",
-        )?,
-    )
+    let mut text = String::new(heap);
+    text.write_str("free does not settle: it has no patience and no catch-up count\n")?;
+    Ok(text)
 }
 
 // The answer to the words that stand after the program's name.

@@ -25,7 +25,7 @@ larger-or-same x t h = by (ltb x t) refl
 pub linear-settles : Settles linear linear-patience linear-catch-up
 linear-settles = record {
   itself = λ s l. le-ltb s s (omega arith);
-  some = omega arith;
+  least = omega arith;
   patience = λ s t i l low high e. lt-ltb s t (omega (arith, linear-after s i t e));
   enough = λ x b lx lb. omega arith;
   catch-up = λ x b lx lb there. (x - b - 1, omega arith, λ i t low high e. larger-or-same x t (omega (arith, linear-after b i t e)));

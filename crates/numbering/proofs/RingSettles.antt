@@ -68,7 +68,7 @@ module _ (smax : ℕ) where
 pub circular-settles : (smax : ℕ) → 2 ≤ smax → Settles (circular smax) (half smax) (λ x b. circular-catch-up smax)
 circular-settles smax least = record {
   itself = λ s l. ap (λ (d : ℕ). leb 1 d && leb d (half smax)) (distance-itself smax s (leb-true s smax l));
-  some = omega arith;
+  least = omega arith;
   patience = λ s t i l low high e.
       let on = leb-true s smax l in
       subst (λ (u : ℕ). circular-fresh smax u s ≡ true) (sym (ring-after smax (circular-fresh smax) s i t on e)) (circular-ahead smax s i on low high);
@@ -96,7 +96,7 @@ differs-or-same t x = by (eqb t x) refl
 pub differentiated-settles : (smax : ℕ) → 2 ≤ smax → Settles (differentiated smax) smax (λ x b. smax)
 differentiated-settles smax least = record {
   itself = λ s l. ap not (eq-eqb s s refl);
-  some = omega arith;
+  least = omega arith;
   patience = λ s t i l low high e.
       let on = leb-true s smax l in
       let steps : distance smax t s ≡ i = ap (λ (u : ℕ). distance smax u s) (ring-after smax differs s i t on e) ∙ distance-ahead smax s i on high in

@@ -1,3 +1,4 @@
 pub mod Meaning
 pub mod Kinds
 pub mod Four
+pub mod Worked

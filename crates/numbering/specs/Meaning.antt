@@ -37,7 +37,7 @@ pub record Settles {Num : Type 0} (m : Meaning Num) (G : ℕ) (C : Num → Num �
   -- no number is fresh against itself
   pub itself : (s : Num) → Lawful m s → m .fresh s s ≡ false
   -- each of the G numbers that follow s, as far as they exist, is fresh against s
-  pub some : 1 ≤ G
+  pub least : 1 ≤ G
   pub patience : (s t : Num) (i : ℕ) → Lawful m s → 1 ≤ i → i ≤ G → after m i s ≡ Some t → m .fresh t s ≡ true
   -- among the first C numbers after b, if so many follow, some G in a row are each fresh against x or equal to x
   pub enough : (x b : Num) → Lawful m x → Lawful m b → G ≤ C x b

@@ -13,7 +13,7 @@ pub impl Numbering for Free as FreeNumbering {
     ghost meaning = { λ _. free };
 
     fn lawful(&self, _number: Zero) -> bool {
-        true
+        true // it is the only one
     }
 
     fn next(&self, number: Zero) -> Option<Zero> {
@@ -21,6 +21,6 @@ pub impl Numbering for Free as FreeNumbering {
     }
 
     fn fresh(&self, _copy: Zero, _held: Zero) -> bool {
-        true
+        true // whatever is held
     }
 }

@@ -6,6 +6,8 @@ mod kind;
 mod linear;
 mod numbering;
 mod ring;
+#[cfg(test)]
+mod tests;
 
 pub use circular::Circular;
 pub use circular::CircularNumbering;
@@ -19,7 +21,10 @@ pub use kind::NumberKind;
 pub use kind::U8Kind;
 pub use kind::U32Kind;
 pub use kind::Zero;
+pub use kind::ZeroDebug;
+pub use kind::ZeroEq;
 pub use kind::ZeroKind;
+pub use kind::ZeroPartialEq;
 pub use linear::Linear;
 pub use linear::LinearNumbering;
 pub use linear::LinearSettling;

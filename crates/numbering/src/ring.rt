@@ -26,6 +26,13 @@ impl Ring {
         self.smax
     }
 
+    // How many numbers there are.
+    fn count(self) -> u16
+        ensures { λ r. ⌜ r ≡ self .smax + 1 ⌝ }
+    {
+        u16::from(self.smax) + 1
+    }
+
     pub fn has(self, number: u8) -> bool
         ensures { λ r. ⌜ r ≡ leb number (self .smax) ⌝ }
     {
@@ -35,15 +42,14 @@ impl Ring {
     pub fn next(self, number: u8) -> u8
         ensures { λ r. ⌜ r ≡ (number + 1) % (self .smax + 1) ⌝ }
     {
-        let count = u16::from(self.smax) + 1;
-        ((u16::from(number) + 1) % count) as u8
+        ((u16::from(number) + 1) % self.count()) as u8
     }
 
     // How many steps lead from `held` to `copy`.
     pub fn distance(self, copy: u8, held: u8) -> u16
         ensures { λ r. ⌜ r ≡ distance (self .smax) copy held ⌝ }
     {
-        let count = u16::from(self.smax) + 1;
+        let count = self.count();
         (u16::from(copy) + (count - u16::from(held) % count)) % count
     }
 

@@ -46,7 +46,7 @@ module _ (window : ℕ) where
 pub window-settles : (window : ℕ) → 1 ≤ window → Settles (windowed window) window (window-catch-up window)
 window-settles window some = record {
   itself = λ s l. or-from _ _ (le-ltb (s .value) (s .value) (omega arith)) (le-ltb window (s .value - s .value) (omega arith));
-  some = some;
+  least = some;
   patience = λ s t i l low high e. ahead-fresh window t s (omega (arith, window-after window s i t e));
   enough = λ x b lx lb. let p = catches window x b in omega (arith, p .1);
   catch-up = λ x b lx lb there. catches window x b;
