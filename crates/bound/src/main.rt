@@ -43,3 +43,17 @@ fn main(rt: LibcRuntime) -> io::Result<()> {
         _ => answer(&rt, words.as_slice()),
     }
 }
+
+#[cfg(test)]
+mod tests {
+    use super::*;
+    use std::test::*;
+
+    // An error from `main` is what ends the program with status 1.
+    #[test]
+    fn a_wrong_word_is_an_error(rt: LibcRuntime) -> Result<(), Fail> {
+        let mut words = Vec::new(rt.alloc());
+        words.push(String::from_str(rt.alloc(), "ring")?)?;
+        check(answer(&rt, words.as_slice()).is_err())
+    }
+}

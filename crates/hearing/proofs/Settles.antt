@@ -140,6 +140,7 @@ module _ {Num : Type 0} (m : Meaning Num) (keeps : Keeps-lawful m) (G : ℕ) (C 
           (λ h. f .0 (omega arith), λ h. f .1 (omega arith))
 
   pub settled : (x b : Num) → Lawful m x → Lawful m b → Settled m x b (C x b)
+  unfolding Settled
   settled x b lx lb n k flood e =
       let there = numbered m n k x b flood e in
       let step = each-heard m (InStep x) (first-in-step x) (later-in-step x) n k x b flood e lb .1 refl in

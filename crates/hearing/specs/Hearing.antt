@@ -22,5 +22,5 @@ module _ {Num : Type 0} (m : Meaning Num) where
   hearing (suc n) held base = elim (m .next base) [ None ↦ [] | Some number ↦ heard held number ∷ hearing n (heard held number .held) number ]
 
   -- A sensor that hears every flood settles: from flood C on it holds the number that the base sent, and each flood after those C it accepts.
-  abbrev pub Settled : Num → Num → ℕ → Type 0
+  unfoldable pub Settled : Num → Num → ℕ → Type 0
   Settled held base C = (n k : ℕ) (flood : Heard Num) → nth (hearing n held base) k ≡ Some flood → (C ≤ k + 1 → flood .held ≡ flood .number) × (C ≤ k → flood .verdict ≡ Accepted)

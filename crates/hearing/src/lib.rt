@@ -4,7 +4,8 @@ ghost use Rattle.hearing.specs.declared.Fault.the-variants.{Memory};
 ghost use Rattle.std.specs.Of.Vec.{vec-items};
 ghost use Rattle.std.specs.Vec.{made};
 ghost use Rattle.hearing.specs.Forecasts.{Answers};
-ghost use Rattle.hearing.specs.Hearing.{heard, hearing};
+ghost use Rattle.hearing.specs.Hearing.{heard, hearing, Settled};
+ghost use Rattle.numbering.specs.Meaning.{Lawful};
 use numbering::Numbering;
 use numbering::Settling;
 use std::alloc::AllocError;
@@ -93,6 +94,11 @@ pub impl From<AllocError> for Fault as FaultFromAlloc {
     }
 }
 
+// The theorem that a sensor which hears every flood has settled by the catch-up count.
+fn settled<N: Settling>(numbering: &N, held: N::Number, base: N::Number)
+    ensures { λ _. ⌜ (Lawful (N·Numbering .meaning (now (numbering .entry))) held → Lawful (N·Numbering .meaning (now (numbering .entry))) base → Settled (N·Numbering .meaning (now (numbering .entry))) held base (N·Settling .catchup (now (numbering .entry)) held base)) ⌝ }
+{}
+
 // Patience and catch-up count of a sensor that holds `held` under a base that holds `base`, and what
 // it makes of the base's floods until it has caught up, of which at most `most` are listed.
 pub fn foretell<N: Settling>(
@@ -110,6 +116,7 @@ pub fn foretell<N: Settling>(
     if !numbering.lawful(base) {
         return Err(Fault::BaseUnlawful);
     }
+    settled(numbering, held, base);
     let (patience, catch_up) = numbering.bound(held, base);
     let floods = hear_floods(heap, numbering, held, base, catch_up.min(most))?;
     Ok(Forecast {

@@ -53,7 +53,7 @@ pub impl Settling for Circular as CircularSettling {
 
     ghost catchup = { λ c _ _. circular-catch-up (c .ring .smax) };
 
-    fn bound(&self, _held: u8, _base: u8) -> (u64, u64) {
+    fn figures(&self, _held: u8, _base: u8) -> (u64, u64) {
         let patience = u64::from(self.ring.half());
         (patience, u64::from(self.ring.smax()) + patience - 1)
     }

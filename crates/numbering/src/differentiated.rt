@@ -52,7 +52,7 @@ pub impl Settling for Differentiated as DifferentiatedSettling {
 
     ghost catchup = { λ d _ _. d .ring .smax };
 
-    fn bound(&self, _held: u8, _base: u8) -> (u64, u64) {
+    fn figures(&self, _held: u8, _base: u8) -> (u64, u64) {
         let smax = u64::from(self.ring.smax());
         (smax, smax)
     }

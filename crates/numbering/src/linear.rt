@@ -30,7 +30,7 @@ pub impl Settling for Linear as LinearSettling {
 
     ghost catchup = { λ _. linear-catch-up };
 
-    fn bound(&self, held: u32, base: u32) -> (u64, u64) {
+    fn figures(&self, held: u32, base: u32) -> (u64, u64) {
         let ahead = held.saturating_sub(base).saturating_sub(1);
         (255, u64::from(ahead) + 255)
     }

@@ -36,8 +36,15 @@ pub trait Settling: Numbering {
 
     law settles: { (m : Self) → Settles (Self·Numbering .meaning m) (patience m) (catchup m) };
 
+    // What `bound` answers: an implementation gives the two figures, and `bound` adds the laws.
+    fn figures(&self, held: Self::Number, base: Self::Number) -> (u64, u64)
+        ensures { λ r. ⌜ r ≡ (patience (now (self .entry)), catchup (now (self .entry)) held base) ⌝ };
+
     // Patience and catch-up count, for a sensor that holds `held` under a base that holds `base`.
     fn bound(&self, held: Self::Number, base: Self::Number) -> (u64, u64)
         ensures value { λ r. ⌜ r ≡ (patience (now (self .entry)), catchup (now (self .entry)) held base) ⌝ }
-        ensures laws { λ _. ⌜ Settles (Self·Numbering .meaning (now (self .entry))) (patience (now (self .entry))) (catchup (now (self .entry))) ⌝ };
+        ensures laws { λ _. ⌜ Settles (Self·Numbering .meaning (now (self .entry))) (patience (now (self .entry))) (catchup (now (self .entry))) ⌝ }
+    {
+        self.figures(held, base)
+    }
 }

@@ -54,7 +54,7 @@ pub impl Settling for Windowed as WindowedSettling {
 
     ghost catchup = { λ w. window-catch-up (w .window) };
 
-    fn bound(&self, held: Serial, base: Serial) -> (u64, u64) {
+    fn figures(&self, held: Serial, base: Serial) -> (u64, u64) {
         let patience = u64::from(self.window);
         let ahead = u64::from(held.value.saturating_sub(base.value));
         let wait = if ahead > 2 * patience {
