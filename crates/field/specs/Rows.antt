@@ -15,13 +15,17 @@ use Rattle.field.specs.declared.settings.Settings.{Settings}
 use Rattle.field.specs.SettingLimits.{within}
 
 -- the longest time on a timer: a flood period for the base, which is sensor 0, and a forwarding period for the others
-abbrev pub longest : Settings → ℕ → ℕ
-longest s sensor = cond (eqb sensor 0) (s .f) (s .tmax)
+abbrev pub longest : ℕ → ℕ → ℕ → ℕ
+longest tmax f sensor = cond (eqb sensor 0) f tmax
 
 -- a mark is a hop count up to hmax, and the base has none
-abbrev pub mark-keeps : Settings → ℕ → Option ℕ → Bool
-mark-keeps s sensor None = true
-mark-keeps s sensor (Some hop) = not (eqb sensor 0) && leb hop (s .hmax)
+abbrev pub mark-keeps : ℕ → ℕ → Option ℕ → Bool
+mark-keeps hmax sensor None = true
+mark-keeps hmax sensor (Some hop) = not (eqb sensor 0) && leb hop hmax
+
+-- a sensor's timer and mark
+abbrev pub clock-keeps : ℕ → ℕ → ℕ → ℕ → ℕ → Option ℕ → Bool
+clock-keeps hmax tmax f sensor timer mark = within 1 (longest tmax f sensor) timer && mark-keeps hmax sensor mark
 
 module _ {Num : Type 0} (m : Meaning Num) (s : Settings) where
   abbrev pub message-keeps : Message Num → Bool
@@ -37,7 +41,7 @@ module _ {Num : Type 0} (m : Meaning Num) (s : Settings) where
 
   -- the limits of a sensor's row
   abbrev pub row-keeps : Stage → ℕ → Row Num → Bool
-  row-keeps stage sensor row = (within 1 (longest s sensor) (row .timer) && mark-keeps s sensor (row .mark)) && (m .lawful (row .held) && outgoing-keeps stage (row .outgoing))
+  row-keeps stage sensor row = clock-keeps (s .hmax) (s .tmax) (s .f) sensor (row .timer) (row .mark) && (m .lawful (row .held) && outgoing-keeps stage (row .outgoing))
 
 -- both ends are sensors of a field of n
 abbrev pub ends-within : ℕ → ℕ → ℕ → Bool

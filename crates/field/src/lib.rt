@@ -5,6 +5,7 @@ mod parts;
 mod settings;
 
 pub use limits::Stage;
+pub use limits::clock_keeps;
 pub use limits::row_keeps;
 pub use parts::Act;
 pub use parts::Damage;

@@ -1,6 +1,6 @@
 // The limits of rows and links.
 ghost use mathlib.Core.Path.{_≡_};
-ghost use Rattle.field.specs.Rows.{longest, mark-keeps, outgoing-keeps, row-keeps, ends-within, link-keeps, joins};
+ghost use Rattle.field.specs.Rows.{clock-keeps, mark-keeps, outgoing-keeps, row-keeps, ends-within, link-keeps, joins};
 use crate::parts::Link;
 use crate::parts::Loss;
 use crate::parts::Message;
@@ -16,26 +16,20 @@ pub enum Stage {
     Within,
 }
 
-impl Settings {
-    // The longest time on a sensor's timer.
-    pub fn longest(self, sensor: usize) -> u16
-        ensures { λ r. ⌜ r ≡ longest self sensor ⌝ }
-    {
-        if sensor == 0 {
-            self.f
-        } else {
-            u16::from(self.tmax)
-        }
-    }
+// Do a sensor's timer and mark keep their limits, in a field with these settings?
+pub fn clock_keeps(hmax: u8, tmax: u8, f: u16, sensor: usize, timer: u16, mark: Option<u8>) -> bool
+    ensures { λ r. ⌜ r ≡ clock-keeps hmax tmax f sensor timer mark ⌝ }
+{
+    let longest = if sensor == 0 { f } else { u16::from(tmax) };
+    1 <= timer && timer <= longest && mark_keeps(hmax, sensor, mark)
+}
 
-    // May this sensor have this mark?
-    pub fn mark_keeps(self, sensor: usize, mark: Option<u8>) -> bool
-        ensures { λ r. ⌜ r ≡ mark-keeps self sensor mark ⌝ }
-    {
-        match mark {
-            Some(hop) => sensor != 0 && hop <= self.hmax,
-            None => true,
-        }
+fn mark_keeps(hmax: u8, sensor: usize, mark: Option<u8>) -> bool
+    ensures { λ r. ⌜ r ≡ mark-keeps hmax sensor mark ⌝ }
+{
+    match mark {
+        Some(hop) => sensor != 0 && hop <= hmax,
+        None => true,
     }
 }
 
@@ -66,9 +60,14 @@ pub fn row_keeps<N: Numbering>(
 ) -> bool
     ensures { λ r. ⌜ r ≡ row-keeps (N·Numbering .meaning (now (numbering .entry))) settings stage sensor row ⌝ }
 {
-    1 <= row.timer
-        && row.timer <= settings.longest(sensor)
-        && settings.mark_keeps(sensor, row.mark)
+    clock_keeps(
+        settings.hmax,
+        settings.tmax,
+        settings.f,
+        sensor,
+        row.timer,
+        row.mark,
+    )
         && numbering.lawful(row.held)
         && outgoing_keeps(numbering, settings, stage, row.outgoing)
 }
