@@ -41,13 +41,23 @@ module _ (file : List ℕ) where
   abbrev pub zero-tail : ℕ → Bool
   zero-tail k = zeros k 8 && (zeros k 9 && (zeros k 10 && zeros k 11))
 
+  abbrev pub sensor-zeros : ℕ → Bool
+  sensor-zeros k = zeros k 3 && (zeros k 6 && zeros k 7)
+
+  abbrev pub link-zeros : ℕ → Bool
+  link-zeros k = zeros k 4 && (zeros k 5 && (zeros k 6 && (zeros k 7 && zero-tail k)))
+
+  abbrev pub loss-zeros : ℕ → Bool
+  loss-zeros k = zeros k 3 && zero-tail k
+
+  abbrev pub play-zeros : ℕ → Bool
+  play-zeros k = zeros k 1 && (zeros k 2 && (zeros k 3 && zero-tail k))
+
   -- 3: a byte that must be zero is not, by the record's own kind
   abbrev pub not-zero : ℕ → Bool
   not-zero k =
-      (is-kind file k Sensor && not (zeros k 3 && (zeros k 6 && zeros k 7)))
-      || ((is-kind file k Link && not (zeros k 4 && (zeros k 5 && (zeros k 6 && (zeros k 7 && zero-tail k)))))
-      || ((is-kind file k Loss && not (zeros k 3 && zero-tail k))
-      || (is-kind file k Play && not (zeros k 1 && (zeros k 2 && (zeros k 3 && zero-tail k))))))
+      (is-kind file k Sensor && not (sensor-zeros k))
+      || ((is-kind file k Link && not (link-zeros k)) || ((is-kind file k Loss && not (loss-zeros k)) || (is-kind file k Play && not (play-zeros k))))
 
   -- the settings that record 0 writes
   abbrev pub file-code : ℕ
@@ -170,10 +180,10 @@ field-fault Rows k = BadRow k
 field-fault Losses k = NoLink k
 
 -- one case looked for everywhere
-abbrev pub record-case : List ℕ → RecordCase → Result (Unit {0}) RecordFault
+unfoldable pub record-case : List ℕ → RecordCase → Result (Unit {0}) RecordFault
 record-case file case = judged (record-fault case) (lowest (record-at file case) (record-places file case))
 
-abbrev pub field-case : List ℕ → FieldCase → Result (Unit {0}) FieldFault
+unfoldable pub field-case : List ℕ → FieldCase → Result (Unit {0}) FieldFault
 field-case file case = judged (field-fault case) (lowest (field-at file case) (field-places file case))
 
 -- the first that is wrong, of two
@@ -194,5 +204,5 @@ abbrev pub in-record : Result (Unit {0}) RecordFault → Result (Unit {0}) Field
 in-record (Ok t) = Ok t
 in-record (Err fault) = Err (Record fault)
 
-unfoldable pub file-checked : List ℕ → Result (Unit {0}) FieldFault
+abbrev pub file-checked : List ℕ → Result (Unit {0}) FieldFault
 file-checked file = then (in-record (records-checked file)) (fields-checked file)

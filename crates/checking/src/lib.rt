@@ -1,6 +1,10 @@
 // Whether a file is a field: each case in which it is refused, looked for in order.
 mod cases;
-mod tests_at;
+mod check;
+mod field_places;
+mod record_places;
 
 pub use cases::FieldCase;
 pub use cases::RecordCase;
+pub use check::check_file;
+pub use check::check_records;
