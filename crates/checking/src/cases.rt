@@ -1,7 +1,7 @@
 // The cases in which a file is refused, in the order in which they are looked for.
 
 // Of the records one by one.
-#[derive(Clone, Copy, PartialEq, Eq, Debug)]
+#[derive(Clone, Copy)]
 pub enum RecordCase {
     Length,
     Kind,
@@ -9,7 +9,7 @@ pub enum RecordCase {
 }
 
 // Of the records as a field.
-#[derive(Clone, Copy, PartialEq, Eq, Debug)]
+#[derive(Clone, Copy)]
 pub enum FieldCase {
     Order,
     Setting,

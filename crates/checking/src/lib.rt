@@ -4,7 +4,5 @@ mod check;
 mod field_places;
 mod record_places;
 
-pub use cases::FieldCase;
-pub use cases::RecordCase;
 pub use check::check_file;
 pub use check::check_records;

@@ -8,7 +8,6 @@ use Rattle.numbering.specs.Meaning.{Meaning}
 use Rattle.field.specs.declared.limits.Stage.{Stage}
 use Rattle.field.specs.declared.limits.Stage.the-variants.{Beginning, Between, Within}
 use Rattle.field.specs.declared.parts.Link.{Link}
-use Rattle.field.specs.declared.parts.Loss.{Loss}
 use Rattle.field.specs.declared.parts.Message.{Message}
 use Rattle.field.specs.declared.parts.Row.{Row}
 use Rattle.field.specs.declared.settings.Settings.{Settings}

@@ -2,7 +2,6 @@
 ghost use mathlib.Core.Path.{_≡_};
 ghost use Rattle.field.specs.Rows.{clock-keeps, mark-keeps, outgoing-keeps, row-keeps, ends-within, link-keeps, joins};
 use crate::parts::Link;
-use crate::parts::Loss;
 use crate::parts::Message;
 use crate::parts::Row;
 use crate::settings::Settings;
@@ -92,14 +91,5 @@ impl Link {
         ensures { λ r. ⌜ r ≡ joins self from to ⌝ }
     {
         self.from == from && self.to == to
-    }
-}
-
-impl Loss {
-    // Are both ends sensors of a field of n?
-    pub fn is_within(self, n: u8) -> bool
-        ensures { λ r. ⌜ r ≡ ends-within n (self .from) (self .to) ⌝ }
-    {
-        self.from < n && self.to < n
     }
 }

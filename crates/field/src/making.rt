@@ -1,6 +1,5 @@
 // Settings made, and changed by value.
-ghost use mathlib.Core.Path.{_≡_};
-ghost use Rattle.field.specs.Making.{Made};
+ghost use Rattle.field.specs.Making.{HasSettings, Made};
 use crate::settings::Settings;
 use refusal::FieldFault;
 
@@ -46,7 +45,7 @@ impl Settings {
     }
 
     pub fn with_seed(self, seed: u32) -> Settings
-        ensures { λ r. ⌜ (r .n ≡ self .n) × (r .hmax ≡ self .hmax) × (r .tmax ≡ self .tmax) × (r .f ≡ self .f) × (r .seed ≡ seed) ⌝ }
+        ensures { λ r. ⌜ HasSettings (self .n) (self .hmax) (self .tmax) (self .f) seed r ⌝ }
     {
         Settings {
             n: self.n,

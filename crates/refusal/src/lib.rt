@@ -118,7 +118,7 @@ impl FieldFault {
         ensures { λ r. ⌜ r ≡ field-told self ⌝ }
     {
         match self {
-            FieldFault::Record(fault) => fault.told(),
+            FieldFault::Record(lower) => lower.told(),
             FieldFault::OutOfOrder(place) => tell(4, place, Layer::Field),
             FieldFault::BadSetting => tell(5, 0, Layer::Field),
             FieldFault::NoSensor(place) => tell(6, place, Layer::Field),
@@ -135,7 +135,7 @@ impl RunFault {
         ensures { λ r. ⌜ r ≡ run-told self ⌝ }
     {
         match self {
-            RunFault::Field(fault) => fault.told(),
+            RunFault::Field(lower) => lower.told(),
             RunFault::ShortBuffer => tell(11, 0, Layer::Run),
             RunFault::LastInstant => tell(12, 0, Layer::Run),
             RunFault::NoNumber => tell(13, 0, Layer::Run),

@@ -7,7 +7,7 @@ use Rattle.search.proofs.Places.{lowest-zero, lowest-more, lowest-first, is-lo
 use Rattle.search.proofs.lowest.Needs as need
 
 pub loop-place-holds : need.loop-place-holds
-loop-place-holds g c = lowest-zero (g .C·Case .at (c .args .case .now))
+loop-place-holds g c = search (needs, lowest-zero (g .C·Case .at (c .args .case .now)))
 
 pub returns-then-holds : need.returns-then-holds
 returns-then-holds g c =
