@@ -1,4 +1,6 @@
 // The program `bound`: a numbering's patience and catch-up count for a sensor, flood by flood.
+#![tactic(auto)]
+
 use inquiry::reply;
 use std::{env, io};
 
@@ -37,7 +39,7 @@ fn answer(rt: &HostRuntime, words: &[String]) -> io::Result<()> {
 fn main(rt: HostRuntime) -> io::Result<()> {
     let words: Vec<String> = env::args(&rt)?.skip(1).collect(rt.alloc())?;
     match words.first() {
-        Some(word) if word == "--help" => rt.print(USAGE),
+        Some(word) if word.as_str() == "--help" => rt.print(USAGE),
         _ => answer(&rt, words.as_slice()),
     }
 }

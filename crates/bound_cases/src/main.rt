@@ -1,5 +1,7 @@
 // Runs `bound` on each line of standard input, which is a command line without the program's name.
 // A line `windowed WINDOW HELD BASE` asks the same of a numbering made outside the crate of the four.
+#![tactic(auto)]
+
 use inquiry::{Complaint, reply, report};
 use std::alloc::Global;
 use std::io;
@@ -19,7 +21,7 @@ fn windowed_in(word: &str) -> Option<Windowed> {
 
 fn answer(heap: Global, words: &[String]) -> Result<String, Complaint> {
     match words {
-        [name, window, held, base] if name == "windowed" => {
+        [name, window, held, base] if name.as_str() == "windowed" => {
             match windowed_in(window.as_str()) {
                 Some(numbering) => report(heap, &numbering, held.as_str(), base.as_str()),
                 None => Err(Complaint::Words),

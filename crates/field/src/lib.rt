@@ -1,4 +1,6 @@
 // The parts of a field, and their limits.
+#![tactic(auto)]
+
 mod limits;
 mod making;
 mod parts;

@@ -1,4 +1,6 @@
 // The program `field_tool`: a field file as a listing, for an author before a sitting.
+#![tactic(auto)]
+
 mod causes;
 
 use causes::cause;
@@ -75,8 +77,8 @@ fn show(rt: &HostRuntime, name: &str) -> io::Result<()> {
 fn main(rt: HostRuntime) -> io::Result<()> {
     let words: Vec<String> = env::args(&rt)?.skip(1).collect(rt.alloc())?;
     match words.as_slice() {
-        [word] if word == "--help" => rt.print(USAGE),
-        [word, name] if word == "show" => show(&rt, name.as_str()),
+        [word] if word.as_str() == "--help" => rt.print(USAGE),
+        [word, name] if word.as_str() == "show" => show(&rt, name.as_str()),
         _ => {
             eprintln!(rt; "field_tool: it is called as field_tool show FILE, or with --help")?;
             Err(invalid())

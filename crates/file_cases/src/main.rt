@@ -1,4 +1,6 @@
 // Checks each file that standard input names, and says whether it passes, or which refusal it gets and where.
+#![tactic(auto)]
+
 use checking::check_file;
 use std::{fs, io};
 

@@ -1,4 +1,6 @@
 // What a numbering is in a file: its code and its smax.
+#![tactic(auto)]
+
 ghost use Rattle.std.specs.Prelude.{◌≡◌, ℕ};
 ghost use Rattle.checking.specs.Codes.{lawful_value};
 ghost use Rattle.filed.specs.Values.{lawful_of};
@@ -23,7 +25,7 @@ pub trait Filed: Numbering {
     fn smax(&self) -> u8
         ensures { result ≡ top self.now };
 
-    ghost values: { (m : Self) (v : ℕ) → lawful_value (coded m) (top m) v ≡ lawful_of (Self.Numbering.meaning m) Number-as-NumberKind.of v };
+    ghost values: { (m : Self) (v : ℕ) → lawful_value (coded m) (top m) v ≡ lawful_of (Self.Numbering.meaning m) Self.Number.NumberKind.of v };
 }
 
 impl Filed for Free {

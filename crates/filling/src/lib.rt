@@ -1,4 +1,6 @@
 // One fill of a lent buffer, whatever it is filled with.
+#![tactic(auto)]
+
 ghost use Rattle.std.specs.Prelude.{◌≡◌, ℕ, Option};
 ghost use Rattle.filling.specs.Filled.{filled};
 

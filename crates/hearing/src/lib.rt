@@ -1,4 +1,6 @@
 // What a sensor makes of the floods that it hears, one after another.
+#![tactic(auto)]
+
 ghost use Rattle.std.specs.Prelude.{◌≡◌, IfOk};
 ghost use Rattle.hearing.specs.declared.Fault.TheVariants.{Memory};
 ghost use Rattle.hearing.specs.Forecasts.{Answers};

@@ -1,4 +1,6 @@
 // What the program `bound` is asked, and what it answers, as text.
+#![tactic(auto)]
+
 mod complaint;
 mod reading;
 mod replies;

@@ -17,7 +17,7 @@ pub fn report<N: Settling>(
     held: &str,
     base: &str,
 ) -> Result<String, Complaint>
-    ensures { Says (settling (N.Numbering.meaning numbering.now) (N.Settling.patience numbering.now) (N.Settling.catchup numbering.now) Number-as-NumberKind.of Number-as-NumberKind.worth held.now base.now) result }
+    ensures { Says (settling (N.Numbering.meaning numbering.now) (N.Settling.patience numbering.now) (N.Settling.catchup numbering.now) N.Number.NumberKind.of N.Number.NumberKind.worth held.now base.now) result }
 {
     let Some(held) = lawful_in(numbering, held) else {
         return Err(Complaint::Held);
@@ -37,7 +37,7 @@ fn report_words<N: Settling>(
     numbering: &N,
     words: &[String],
 ) -> Result<String, Complaint>
-    ensures { Says (two (settling (N.Numbering.meaning numbering.now) (N.Settling.patience numbering.now) (N.Settling.catchup numbering.now) Number-as-NumberKind.of Number-as-NumberKind.worth) (map string_bytes words.now)) result }
+    ensures { Says (two (settling (N.Numbering.meaning numbering.now) (N.Settling.patience numbering.now) (N.Settling.catchup numbering.now) N.Number.NumberKind.of N.Number.NumberKind.worth) (map string_bytes words.now)) result }
 {
     let Some((held, base)) = pair_of(words) else {
         return Err(Complaint::Words);

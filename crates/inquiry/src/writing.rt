@@ -13,7 +13,8 @@ pub const LISTED: u64 = 512;
 fn write_bound(text: &mut String, patience: u64, catch_up: u64) -> fmt::Result
     ensures { is_ok result ≡ true → string_bytes text.new ≡ string_bytes text.old ++ bound_line patience catch_up }
 {
-    writeln!(text, "patience {patience}, catch-up {catch_up}")
+    writeln!(text, "patience {patience}, catch-up {catch_up}")?;
+    Ok(())
 }
 
 fn verdict_word(verdict: Verdict) -> &'static str
@@ -34,7 +35,8 @@ fn write_flood<K: NumberKind>(text: &mut String, place: u64, flood: &Heard<K>) -
     writeln!(
         text,
         "flood {place}: number {number} {verdict}, holds {held}"
-    )
+    )?;
+    Ok(())
 }
 
 fn write_floods<K: NumberKind>(text: &mut String, floods: &[Heard<K>]) -> fmt::Result

@@ -1,4 +1,6 @@
 // A field file as a listing: a line for each record, in plain words and decimal numbers.
+#![tactic(auto)]
+
 mod lines;
 mod listed;
 

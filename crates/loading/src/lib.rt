@@ -1,4 +1,6 @@
 // A field read from a file.
+#![tactic(auto)]
+
 mod counts;
 mod loads;
 mod numberings;

@@ -1,4 +1,6 @@
 // Number kinds, and the numberings that put numbers on floods.
+#![tactic(auto)]
+
 mod circular;
 mod differentiated;
 mod free;

@@ -1,4 +1,6 @@
 // Text on a lent page of bytes.
+#![tactic(auto)]
+
 ghost use Rattle.std.specs.Prelude.{◌≡◌, ℕ, List, [], ◌∷◌, decimal};
 ghost use Rattle.page.specs.Pages.{Wrote, piece_text, line, fitting, written};
 

@@ -1,4 +1,6 @@
 // What each record of a file is read as.
+#![tactic(auto)]
+
 ghost use Rattle.std.specs.Prelude.{◌≡◌};
 ghost use Rattle.reading.specs.Items.{mark_at, link_at, loss_at, row_at, damage_at, act_at};
 

@@ -1,4 +1,6 @@
 // Records of 12 bytes, as a file has them.
+#![tactic(auto)]
+
 ghost use Rattle.std.specs.Prelude.{◌≡◌};
 ghost use Rattle.recording.specs.Records.{mark_byte, head_record, sensor_record, link_record, middle_record, loss_record, play_record, row_record, act_record};
 

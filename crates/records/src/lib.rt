@@ -1,4 +1,6 @@
 // A file as a row of records of 12 bytes.
+#![tactic(auto)]
+
 ghost use Rattle.std.specs.Prelude.{◌≡◌};
 ghost use Rattle.records.specs.Records.{records, byte, two_bytes, four_bytes, letter, is_kind};
 

@@ -1,4 +1,6 @@
 // Why a call declines: three enums, the lower carried whole inside the higher.
+#![tactic(auto)]
+
 ghost use Rattle.std.specs.Prelude.{◌≡◌};
 ghost use Rattle.refusal.specs.Refusals.{tells, record_told, field_told, run_told};
 ghost use Rattle.refusal.specs.declared.FieldFault.TheVariants.{Record};

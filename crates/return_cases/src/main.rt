@@ -1,4 +1,6 @@
 // Loads each file that standard input names, and writes it back: says whether the bytes are the same.
+#![tactic(auto)]
+
 mod back;
 
 use back::comes_back;

@@ -1,4 +1,6 @@
 // One search for every case in which a call declines: the lowest place at which it holds.
+#![tactic(auto)]
+
 ghost use Rattle.std.specs.Prelude.{◌≡◌, ℕ, Bool};
 ghost use Rattle.search.specs.Lowest.{lowest, IsLowest, judged};
 

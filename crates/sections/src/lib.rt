@@ -1,4 +1,6 @@
 // A file cut into its parts: rows, links, losses and acts, each a row of records.
+#![tactic(auto)]
+
 ghost use Rattle.std.specs.Prelude.{◌≡◌};
 ghost use Rattle.records.specs.Records.{records};
 ghost use Rattle.sections.specs.Parts.{other_kind, leading, first_records, later_records, row_records, link_records, loss_records, act_records};

@@ -1,4 +1,6 @@
 // What is looked for in a field, and in acts, before they are written.
+#![tactic(auto)]
+
 mod acts;
 mod cases;
 mod draft;

@@ -1,4 +1,6 @@
 // A fifth numbering, made outside the crate of the four: numbers of 16 bits with a window.
+#![tactic(auto)]
+
 ghost use Rattle.std.specs.Prelude.{◌≡◌, ◌≤◌, MatchOption};
 ghost use Rattle.windowed.specs.Window.{windowed, window_catch_up};
 ghost use Rattle.std.proofs.Common.{rules, arith};

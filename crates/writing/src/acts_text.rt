@@ -4,7 +4,7 @@ ghost use Rattle.vetting.specs.Acts.{acts_vetted};
 ghost use Rattle.recording.specs.Bytes.{act_bytes};
 ghost use Rattle.writing.specs.Answers.{write-answer, write-page};
 
-use crate::records::put_records;
+use crate::in_turn::put_records;
 use field::{Act, Settings};
 use numbering::{NumberKind, Numbering};
 use page::{Text, write};

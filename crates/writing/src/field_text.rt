@@ -6,7 +6,7 @@ ghost use Rattle.vetting.specs.Vetted.{vetted};
 ghost use Rattle.recording.specs.Bytes.{field_bytes};
 ghost use Rattle.writing.specs.Answers.{write-answer, write-page};
 
-use crate::records::put_records;
+use crate::in_turn::put_records;
 use field::{Link, Loss, Row, Settings};
 use filed::Filed;
 use numbering::NumberKind;

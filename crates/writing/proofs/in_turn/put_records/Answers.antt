@@ -1,6 +1,6 @@
 use Rattle.std.proofs.Common.{arith}
 use Rattle.page.proofs.Wrotes.{wrote_as, none_joined, one_joined, all_joined}
-use Rattle.writing.proofs.records.put_records.Goals as goal
+use Rattle.writing.proofs.in_turn.put_records.Goals as goal
 
 pub loop-item-init : goal.loop-item-init
 loop-item-init g c = none_joined (omega arith)
