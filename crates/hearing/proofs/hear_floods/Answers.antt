@@ -5,8 +5,8 @@ use Rattle.hearing.proofs.hear_floods.Goals as goal
 pub loop-init : goal.loop-init
 loop-init g c = none_yet c.args.most (vec_items c.new-floods.result) c.args.held c.args.base (search rules)
 
-pub returns-in-default : goal.returns-in-default
-returns-in-default g c = none_follows c.loop.invariant (search rules)
+pub returns-in_default : goal.returns-in_default
+returns-in_default g c = none_follows c.loop.invariant (search rules)
 
 pub loop-preserved : goal.loop-preserved
 loop-preserved g c =

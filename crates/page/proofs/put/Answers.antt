@@ -6,7 +6,7 @@ pub loop-piece-init : goal.loop-piece-init
 loop-piece-init c = none_joined (omega arith)
 
 pub loop-piece-preserved : goal.loop-piece-preserved
-loop-piece-preserved c = one_joined c.loop-piece.invariant _ _ (omega arith) (omega arith) c.put-piece-at.ensures refl
+loop-piece-preserved c = one_joined c.loop-piece.invariant _ _ (omega arith) (omega arith) c.put_piece-at.ensures refl
 
 pub returns : goal.returns
 returns c = all_joined c.loop-piece.invariant (omega arith)
