@@ -6,4 +6,4 @@ pub returns-in-empty : goal.returns-in-empty
 returns-in-empty c = first_none string_bytes c.args.words.now (omega (arith, ltb-true, ltb-false))
 
 pub returns-in-len1-up : goal.returns-in-len1-up
-returns-in-len1-up c = first_some string_bytes c.args.words.now c.word-item.result _ (omega (arith, ltb-true, ltb-false)) c.word-item.is c.as-str.ensures.value
+returns-in-len1-up c = first_some string_bytes c.args.words.now c.word-item.result _ (omega (arith, ltb-true, ltb-false)) c.word-item.is c.as_str.ensures.value

@@ -3,7 +3,7 @@ use Rattle.inquiry.proofs.Cuts.{pair_none, pair_some}
 use Rattle.inquiry.proofs.reading.pair_of.Goals as goal
 
 pub returns-in-len2 : goal.returns-in-len2
-returns-in-len2 c = pair_some string_bytes c.args.words.now c.v-item.result c.w-item.result _ _ (omega (arith, ltb-true, ltb-false)) c.v-item.is c.w-item.is c.as-str.ensures.value c.as-str-in-len2.ensures.value
+returns-in-len2 c = pair_some string_bytes c.args.words.now c.v-item.result c.w-item.result _ _ (omega (arith, ltb-true, ltb-false)) c.v-item.is c.w-item.is c.as_str.ensures.value c.as_str-in-len2.ensures.value
 
-pub returns-in-default : goal.returns-in-default
-returns-in-default c = pair_none string_bytes c.args.words.now (λ two. omega (arith, ltb-true, ltb-false))
+pub returns-in_default : goal.returns-in_default
+returns-in_default c = pair_none string_bytes c.args.words.now (λ two. omega (arith, ltb-true, ltb-false))

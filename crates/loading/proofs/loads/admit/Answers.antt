@@ -3,22 +3,22 @@ use Rattle.checking.proofs.Passes.{settings_kept}
 use Rattle.loading.specs.Loads.{admitted}
 use Rattle.loading.proofs.loads.admit.Goals as goal
 
-pub returns-in-err-check-file : goal.returns-in-err-check-file
+pub returns-in_err-check_file : goal.returns-in_err-check_file
 unfolding admitted
-returns-in-err-check-file c = search rules
+returns-in_err-check_file c = search rules
 
-pub returns-in-err-named-right : goal.returns-in-err-named-right
+pub returns-in_err-named_right : goal.returns-in_err-named_right
 unfolding admitted
-returns-in-err-named-right c = search rules
+returns-in_err-named_right c = search rules
 
-pub returns-in-err-fit : goal.returns-in-err-fit
+pub returns-in_err-fit : goal.returns-in_err-fit
 unfolding admitted
-returns-in-err-fit c = search rules
+returns-in_err-fit c = search rules
 
-pub returns-in-err-settings : goal.returns-in-err-settings
+pub returns-in_err-settings : goal.returns-in_err-settings
 unfolding admitted
-returns-in-err-settings c =
-    let kept = settings_kept c.args.file.now (ap is_ok (sym c.in-ok-check-file.ensures)) in
+returns-in_err-settings c =
+    let kept = settings_kept c.args.file.now (ap is_ok (sym c.in_ok-check_file.ensures)) in
     search rules
 
 pub returns : goal.returns

@@ -10,4 +10,4 @@ pub returns-else-from-rows : goal.returns-else-from-rows
 returns-else-from-rows g c =
     let rows = c.args.rows.now in
     let all = sym (take_all c.args.n rows (omega arith)) in
-    wrote_as (ap (λ (rs : List (Row g.row.K.Denot)). joined (row_record g.K.NumberKind.worth) 0 rs) all) c.put-rows-else-from-rows.ensures
+    wrote_as (ap (λ (rs : List (Row g.row.K.Denot)). joined (row_record g.K.NumberKind.worth) 0 rs) all) c.put_rows-else-from-rows.ensures

@@ -8,7 +8,7 @@ loop-item-init g c = none_joined (omega arith)
 pub loop-item-preserved : goal.loop-item-preserved
 loop-item-preserved g c =
     let item = c.item-item.result in
-    one_joined c.loop-item.invariant item item (omega arith) (omega arith) (wrote_as c.record.ensures c.put-bytes-at.ensures) c.item-item.is
+    one_joined c.loop-item.invariant item item (omega arith) (omega arith) (wrote_as c.record.ensures c.put_bytes-at.ensures) c.item-item.is
 
 pub returns : goal.returns
 returns g c = all_joined c.loop-item.invariant (omega arith)

@@ -9,7 +9,7 @@ pub loop-k-init : goal.loop-k-init
 loop-k-init c = none_lined c.args.self.now.file.now c.args.page.now c.args.at (omega arith)
 
 pub loop-k-preserved : goal.loop-k-preserved
-loop-k-preserved c = one_lined c.args.self.now.file.now c.args.page.now c.args.at (omega arith) c.loop-k.invariant c.put-record-behind.ensures
+loop-k-preserved c = one_lined c.args.self.now.file.now c.args.page.now c.args.at (omega arith) c.loop-k.invariant c.put_record-behind.ensures
 
 pub returns : goal.returns
 returns c =

@@ -3,4 +3,4 @@ use Rattle.writing.proofs.acts_text.ActsTextText.put.Goals as goal
 
 pub returns : goal.returns
 unfolding act_bytes
-returns g c = c.put-records.ensures
+returns g c = c.put_records.ensures

@@ -6,4 +6,4 @@ use Rattle.writing.proofs.field_text.FieldTextText.put.Goals as goal
 pub returns : goal.returns
 unfolding field_bytes
 returns g c =
-    wrote_then (omega arith) c.put-head-rows.ensures (wrote_then (omega arith) c.put-first-rows-links.ensures (wrote_then (omega arith) c.put-records-losses.ensures (wrote_as (search rules) c.put-records.ensures)))
+    wrote_then (omega arith) c.put_head-rows.ensures (wrote_then (omega arith) c.put_first_rows-links.ensures (wrote_then (omega arith) c.put_records-losses.ensures (wrote_as (search rules) c.put_records.ensures)))
