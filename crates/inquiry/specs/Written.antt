@@ -13,7 +13,7 @@ verdict_word Accepted = codes "accepted"
 verdict_word Refused = codes "refused"
 
 abbrev pub bound_line : ℕ → ℕ → List ℕ
-bound_line patience catch_up = codes "patience " ++ (decimal patience ++ (codes ", catch_up " ++ (decimal catch_up ++ codes "\n")))
+bound_line patience catch_up = codes "patience " ++ (decimal patience ++ (codes ", catch-up " ++ (decimal catch_up ++ codes "\n")))
 
 -- why the list is shorter than the catch-up count
 abbrev pub stop_line : ℕ → ℕ → List ℕ
@@ -33,4 +33,4 @@ module _ {Num : Type 0} (worth : Num → ℕ) where
   forecast_text patience catch_up floods = bound_line patience catch_up ++ (flood_lines 1 floods ++ stop_line catch_up (length floods))
 
 abbrev pub free_text : List ℕ
-free_text = codes "free does not settle: it has no patience and no catch_up count\n"
+free_text = codes "free does not settle: it has no patience and no catch-up count\n"

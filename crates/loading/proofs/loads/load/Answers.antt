@@ -5,5 +5,5 @@ use Rattle.loading.proofs.loads.load.Goals as goal
 pub returns-in-Ok : goal.returns-in-Ok
 returns-in-Ok g c =
     let n = c.args.numbering.now in
-    let back = loaded_back g.Number.NumberKind.worth c.args.file.now (λ i. (c.type_inv.file i).fits) (g.N.Numbering.meaning n) g.Number.NumberKind.of g.met.Number.NumberKind.back (g.N.Filed.coded n) (g.N.Filed.top n) (g.met.N.Filed.values n) c.args.rows.now c.args.links.now c.args.losses.now c.args.acts.now c.in-Ok.settings c.counts_of-counts.result in
+    let back = loaded_back g.N.Number.NumberKind.worth c.args.file.now (λ i. (c.type_inv.file i).fits) (g.N.Numbering.meaning n) g.N.Number.NumberKind.of g.met.N.Number.NumberKind.back (g.N.Filed.coded n) (g.N.Filed.top n) (g.met.N.Filed.values n) c.args.rows.now c.args.links.now c.args.losses.now c.args.acts.now c.in-Ok.settings c.counts_of-counts.result in
     record { value = search rules; rows = search rules; links = search rules; losses = search rules; acts = search rules; back = back (search rules) (search rules) (search rules) (search rules) (search rules) (search rules) }
