@@ -1,8 +1,8 @@
 -- A file passes exactly where no case holds at any of its places. Assumes nothing.
-use Rattle.std.proofs.Common.{◌≡◌, ℕ, ◌+◌, ◌<◌, Bool, true, false, not, ◌&&◌, List, is_ok, Some, None, Ok, Err, Option, Result, sym, refl, ap, ◌∙◌, subst, arith}
+use Rattle.std.proofs.Common.{◌≡◌, ℕ, ◌+◌, ◌<◌, Bool, true, false, not, ◌&&◌, List, is_ok, Some, None, Ok, Err, Option, Result, sym, refl, arith}
 use Rattle.refusal.specs.declared.RecordFault.{RecordFault}
 use Rattle.records.specs.Records.{records}
-use Rattle.search.specs.Lowest.{lowest, IsLowest, judged}
+use Rattle.search.specs.Lowest.{lowest, judged}
 use Rattle.search.proofs.Places.{is_lowest}
 use Rattle.checking.specs.declared.cases.FieldCase.{FieldCase}
 use Rattle.checking.specs.declared.cases.FieldCase.TheVariants.{Order, Setting, Ends, Links, Count, Rows, Losses}

@@ -1,5 +1,5 @@
 -- The cases in which a file is refused: each a test at a place. Assumes nothing.
-use Rattle.std.specs.Prelude.{ℕ, ◌+◌, ◌-◌, ◌%◌, Bool, true, false, cond, not, ◌&&◌, ◌||◌, List, length, is_some, Some, None, Ok, Err, Option, Result, ◌==◌, nat_le, nat_lt}
+use Rattle.std.specs.Prelude.{ℕ, ◌+◌, ◌-◌, ◌%◌, Bool, cond, not, ◌&&◌, ◌||◌, List, length, is_some, Some, None, Ok, Err, Option, Result, ◌==◌, nat_le, nat_lt}
 use Rattle.records.specs.declared.Kind.TheVariants.{Field, Sensor, Link, Loss, Play}
 use Rattle.records.specs.Records.{records, byte, two_bytes, four_bytes, is_kind}
 use Rattle.refusal.specs.declared.FieldFault.{FieldFault}
@@ -12,7 +12,7 @@ use Rattle.checking.specs.declared.cases.FieldCase.{FieldCase}
 use Rattle.checking.specs.declared.cases.FieldCase.TheVariants.{Order, Setting, Ends, Links, Count, Rows, Losses}
 use Rattle.checking.specs.declared.cases.RecordCase.{RecordCase}
 use Rattle.checking.specs.declared.cases.RecordCase.TheVariants.{Length, Kind, Zero}
-use Rattle.field.specs.SettingLimits.{within, settings_keep}
+use Rattle.field.specs.SettingLimits.{settings_keep}
 use Rattle.field.specs.Rows.{clock_keeps, ends_within, link_keeps, joins}
 use Rattle.checking.specs.Codes.{code_keeps, lawful_value}
 

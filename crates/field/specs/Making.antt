@@ -1,5 +1,5 @@
 -- Settings as they are made. Assumes nothing.
-use Rattle.std.specs.Prelude.{◌≡◌, ℕ, Bool, true, false, ◌&&◌, Ok, Err, Result}
+use Rattle.std.specs.Prelude.{◌≡◌, ℕ, true, false, Ok, Err, Result}
 use Rattle.refusal.specs.declared.FieldFault.{FieldFault}
 use Rattle.refusal.specs.declared.FieldFault.TheVariants.{BadSetting}
 use Rattle.field.specs.declared.settings.Settings.{Settings}

@@ -1,5 +1,5 @@
 -- One place more. Assumes nothing.
-use Rattle.std.proofs.Common.{◌≡◌, ℕ, zero, suc, ◌+◌, ◌<◌, ◌≤◌, min, Bool, true, false, leb, List, [], ◌∷◌, length, set, Some, None, Option, unwrap_or, sym, refl, ap, ◌∙◌, add-one, arith, leb-false, leb-true}
+use Rattle.std.proofs.Common.{◌≡◌, ℕ, zero, suc, ◌+◌, ◌≤◌, min, Bool, true, false, leb, List, [], ◌∷◌, length, set, Some, None, Option, unwrap_or, sym, refl, ap, ◌∙◌, add-one, arith, leb-false, leb-true}
 use Rattle.filling.specs.Filled.{filled}
 
 module _ {A : Type 0} where

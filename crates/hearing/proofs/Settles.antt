@@ -1,9 +1,9 @@
 -- A sensor that hears every flood settles. Assumes nothing.
-use Rattle.std.proofs.Common.{◌≡◌, ℕ, zero, suc, ◌+◌, ◌-◌, ◌<◌, ◌≤◌, Bool, true, false, ◌⊎◌, List, [], ◌∷◌, is_some, Some, None, Option, sym, refl, ap, ◌∙◌, subst, inl, inr, ⊎_elim, suc-add, zero-add, arith}
+use Rattle.std.proofs.Common.{◌≡◌, ℕ, zero, suc, ◌+◌, ◌-◌, ◌≤◌, Bool, true, false, ◌⊎◌, List, [], is_some, Some, None, Option, sym, refl, ap, ◌∙◌, subst, inl, inr, ⊎_elim, suc-add, zero-add, arith}
 use Rattle.std.specs.List.{slice_get}
 use Rattle.numbering.specs.Meaning.{Meaning, Lawful, KeepsLawful, follow, after, Settles}
 use Rattle.hearing.specs.declared.Heard.{Heard}
-use Rattle.hearing.specs.declared.Verdict.TheVariants.{Accepted, Refused}
+use Rattle.hearing.specs.declared.Verdict.TheVariants.{Accepted}
 use Rattle.hearing.specs.Hearing.{heard, hearing, Settled}
 use Rattle.hearing.proofs.Hears.{hearing_none, hearing_more}
 

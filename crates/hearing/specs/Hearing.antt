@@ -1,9 +1,8 @@
 -- What a sensor makes of the floods that it hears, and that it settles. Assumes nothing.
-use Rattle.std.specs.Prelude.{◌≡◌, ℕ, zero, suc, ◌+◌, ◌≤◌, cond, List, [], ◌∷◌, Some, None, Option}
+use Rattle.std.specs.Prelude.{◌≡◌, ℕ, zero, suc, ◌+◌, ◌≤◌, cond, List, [], ◌∷◌, Some, None}
 use Rattle.std.specs.List.{slice_get}
 use Rattle.numbering.specs.Meaning.{Meaning}
 use Rattle.hearing.specs.declared.Heard.{Heard}
-use Rattle.hearing.specs.declared.Verdict.{Verdict}
 use Rattle.hearing.specs.declared.Verdict.TheVariants.{Accepted, Refused}
 
 module _ {Num : Type 0} (m : Meaning Num) where

@@ -1,5 +1,5 @@
 -- The first word of some, and two words, by what stands at their places. Assumes nothing.
-use Rattle.std.proofs.Common.{◌≡◌, ℕ, suc, ◌-◌, ◌<◌, ◌≤◌, List, [], ◌∷◌, map, length, get_or, take, drop, Some, None, sym, refl, ap, ◌∙◌, arith, take_all}
+use Rattle.std.proofs.Common.{◌≡◌, ℕ, suc, ◌-◌, ◌<◌, ◌≤◌, List, [], ◌∷◌, map, length, get_or, take, drop, Some, None, refl, arith, take_all}
 use Rattle.inquiry.specs.Reading.{first_of, pair_of}
 
 module _ {X : Type 0} (bytes : X → List ℕ) where

@@ -1,7 +1,6 @@
 -- What `bound` answers to its words. Assumes nothing.
-use Rattle.std.specs.Prelude.{◌≡◌, ℕ, ◌^◌, min, cond, List, Some, None, Ok, Err, string_bytes, codes, Option, Result, String}
+use Rattle.std.specs.Prelude.{◌≡◌, ℕ, ◌^◌, min, List, Some, None, Ok, Err, string_bytes, Option, Result, String}
 use Rattle.std.specs.declared.alloc.Global.{Global}
-use Rattle.std.specs.Str.{bytes_eq}
 use Rattle.numbering.specs.Four.{free, linear, linear_patience, linear_catch_up, half, circular, circular_catch_up, differentiated}
 use Rattle.numbering.specs.Kinds.{below, zero_of}
 use Rattle.numbering.specs.Meaning.{Meaning}

@@ -1,5 +1,5 @@
 -- One line more. Assumes nothing.
-use Rattle.std.proofs.Common.{◌≡◌, ℕ, suc, ◌+◌, ◌≤◌, List, [], ◌++◌, length, sym, refl, ap, add-one}
+use Rattle.std.proofs.Common.{◌≡◌, ℕ, ◌+◌, ◌≤◌, List, [], ◌++◌, length, sym, refl, ap, add-one}
 use Rattle.page.specs.Pages.{last, Wrote}
 use Rattle.page.proofs.Wrotes.{wrote_as, wrote_nothing, wrote_then}
 use Rattle.listing.specs.Lines.{record_line, lines}

@@ -1,9 +1,9 @@
 -- What is known of a file that is admitted. Assumes nothing.
-use Rattle.std.proofs.Common.{◌≡◌, ℕ, ◌≤◌, Bool, true, false, cond, ◌&&◌, eqb, leb, List, is_ok, Ok, Err, Result, sym, refl, ap, ◌∙◌, eqb-true, leb-true}
+use Rattle.std.proofs.Common.{◌≡◌, ℕ, ◌≤◌, Bool, true, false, cond, ◌&&◌, eqb, leb, List, is_ok, Ok, Err, Result, refl, ap, eqb-true, leb-true}
 use Rattle.refusal.specs.Checks.{in_field}
 use Rattle.refusal.specs.declared.FieldFault.{FieldFault}
 use Rattle.refusal.specs.declared.RunFault.{RunFault}
-use Rattle.checking.specs.Cases.{then, file_checked, file_code, file_smax}
+use Rattle.checking.specs.Cases.{file_checked, file_code, file_smax}
 use Rattle.checking.proofs.Passes.{then_first, then_second}
 use Rattle.loading.specs.declared.counts.Counts.{Counts}
 use Rattle.loading.specs.Loads.{within, roomy, named_right, counted, admitted}

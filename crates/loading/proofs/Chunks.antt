@@ -1,5 +1,5 @@
 -- The bytes of a record, one by one, and numbers cut into bytes again. Assumes nothing.
-use Rattle.std.proofs.Common.{◌≡◌, ℕ, zero, suc, ◌+◌, ◌*◌, ◌/◌, ◌%◌, ◌<◌, ◌≤◌, Bool, true, false, cond, eqb, List, [], ◌∷◌, ◌++◌, length, get_or, take, drop, Some, None, sym, refl, ap, ◌∙◌, subst, add-zero, arith, eqb-true}
+use Rattle.std.proofs.Common.{◌≡◌, ℕ, zero, suc, ◌+◌, ◌*◌, ◌/◌, ◌%◌, ◌<◌, ◌≤◌, Bool, true, false, cond, eqb, List, [], ◌∷◌, length, get_or, take, drop, Some, None, sym, refl, ap, ◌∙◌, add-zero, arith, eqb-true}
 use Rattle.std.proofs.lemmas.List.{drop_more}
 use Rattle.records.specs.Records.{byte, two_bytes, four_bytes}
 use Rattle.reading.specs.Items.{mark_at, link_at, loss_at}

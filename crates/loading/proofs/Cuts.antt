@@ -1,12 +1,12 @@
 -- What a file that passes has in each of its records. Assumes nothing.
-use Rattle.std.proofs.Common.{◌≡◌, ℕ, zero, suc, ◌+◌, ◌-◌, ◌*◌, ◌/◌, ◌%◌, ◌<◌, ◌≤◌, Bool, true, false, cond, not, ◌&&◌, ◌||◌, eqb, ltb, leb, List, [], length, sym, refl, ap, ◌∙◌, subst, arith, ltb-false, eq-eqb, ne_eqb, eqb-true, le-leb, leb-false, leb-true}
+use Rattle.std.proofs.Common.{◌≡◌, ℕ, ◌-◌, ◌*◌, ◌%◌, ◌<◌, ◌≤◌, Bool, true, false, cond, not, ◌&&◌, ◌||◌, eqb, ltb, leb, List, length, sym, refl, ◌∙◌, subst, arith, ne_eqb, eqb-true, le-leb, leb-false, leb-true}
 use Rattle.records.specs.declared.Kind.{Kind}
 use Rattle.records.specs.declared.Kind.TheVariants.{Field, Sensor, Link, Loss, Play}
 use Rattle.records.specs.Records.{records, byte, two_bytes, four_bytes, letter, is_kind}
 use Rattle.reading.specs.Items.{mark_at}
 use Rattle.field.specs.Rows.{clock_keeps}
 use Rattle.checking.specs.Codes.{lawful_value}
-use Rattle.checking.specs.Cases.{file_n, file_code, file_smax, file_hmax, file_tmax, file_f, bad_length, not_zero, zeros, sensor_zeros, link_zeros, loss_zeros, play_zeros, out_of_order, misplaced, bad_row}
+use Rattle.checking.specs.Cases.{file_n, file_code, file_smax, file_hmax, file_tmax, file_f, zeros, sensor_zeros, link_zeros, loss_zeros, play_zeros, misplaced}
 use Rattle.checking.proofs.Passes.{Passed}
 
 pub impossible : {P : Type 0} → false ≡ true → P

@@ -1,10 +1,10 @@
 -- A file that passes, read and written, is its own first part. Assumes nothing.
-use Rattle.std.proofs.Common.{◌≡◌, ℕ, ◌+◌, ◌-◌, ◌*◌, ◌/◌, ◌<◌, ◌≤◌, Bool, true, false, eqb, List, [], ◌∷◌, ◌++◌, length, get_or, take, drop, Some, None, Option, sym, refl, ap, ◌∙◌, subst, append_assoc, arith, length-drop, take-append-drop}
+use Rattle.std.proofs.Common.{◌≡◌, ℕ, ◌+◌, ◌-◌, ◌*◌, ◌<◌, ◌≤◌, true, false, eqb, List, ◌++◌, length, take, drop, Some, None, Option, sym, refl, ap, ◌∙◌, subst, append_assoc, arith, length-drop, take-append-drop}
 use Rattle.records.specs.declared.Kind.TheVariants.{Sensor, Link, Loss}
-use Rattle.records.specs.Records.{records, byte, two_bytes, four_bytes, letter, is_kind}
+use Rattle.records.specs.Records.{records, byte, two_bytes, four_bytes, is_kind}
 use Rattle.page.specs.Pages.{joined}
 use Rattle.reading.specs.Items.{row_at, link_at, loss_at, mark_at}
-use Rattle.recording.specs.Records.{head_record, row_record, link_record, loss_record, sensor_record}
+use Rattle.recording.specs.Records.{head_record, row_record, link_record, loss_record}
 use Rattle.field.specs.declared.Link.{Link as Linked}
 use Rattle.field.specs.declared.Loss.{Loss as Lost}
 use Rattle.sections.specs.Parts.{leading, past_rows, past_links, row_records, link_records, loss_records, act_records}
@@ -18,9 +18,9 @@ use Rattle.numbering.specs.Meaning.{Meaning}
 use Rattle.recording.specs.Bytes.{field_bytes}
 use Rattle.field.specs.declared.Settings.{Settings}
 use Rattle.loading.specs.Loads.{FilesSettings, rows_filled, links_filled, losses_filled}
-use Rattle.loading.proofs.Chunks.{Bytes, bytes_at, chunk, chunk_bytes, head_back, sensor_back, link_back, loss_back}
+use Rattle.loading.proofs.Chunks.{Bytes, chunk, chunk_bytes, head_back, sensor_back, link_back, loss_back}
 use Rattle.loading.proofs.Cuts.{impossible, head_is, whole, rows_there, kind_is, row_is, row_of, row_lawful, sensor_zeroed, link_zeroed, loss_zeroed}
-use Rattle.loading.proofs.Parted.{part, part_byte, part_length, part_fits, drop_byte, drop_fits, leading_within, leading_is}
+use Rattle.loading.proofs.Parted.{part_byte, part_length, part_fits, drop_byte, drop_fits, leading_within, leading_is}
 use Rattle.loading.proofs.Sections.{Back, items_back}
 
 -- the parts together are the file

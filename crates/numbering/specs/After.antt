@@ -1,6 +1,6 @@
 -- The numbers after a number, by a rule for the i-th of them. Assumes nothing.
 use Rattle.std.specs.Prelude.{◌≡◌, ℕ, zero, suc, Bool, true, false, Some, None, Option}
-use Rattle.std.proofs.Common.{sym, subst, arith}
+use Rattle.std.proofs.Common.{subst, arith}
 use Rattle.numbering.specs.Kinds.{given}
 use Rattle.numbering.specs.Meaning.{Meaning, follow, after}
 

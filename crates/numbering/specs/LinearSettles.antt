@@ -1,5 +1,5 @@
 -- Linear settles: what follows is larger, and what follows the held number's own value is fresh. Assumes nothing.
-use Rattle.std.specs.Prelude.{◌≡◌, ℕ, suc, ◌+◌, ◌-◌, ◌<◌, ◌≤◌, Bool, true, false, ◌⊎◌, Some, nat_lt, refl}
+use Rattle.std.specs.Prelude.{◌≡◌, ℕ, ◌+◌, ◌-◌, ◌≤◌, Bool, true, false, ◌⊎◌, Some, nat_lt, refl}
 use Rattle.std.proofs.Common.{inl, inr, arith, lt-ltb, le-ltb, ltb-false}
 use Rattle.numbering.specs.Four.{linear, linear_patience, linear_catch_up}
 use Rattle.numbering.specs.Meaning.{after, Settles}

@@ -1,8 +1,7 @@
 -- The bytes of each record. Assumes nothing.
-use Rattle.std.specs.Prelude.{ℕ, ◌/◌, ◌%◌, List, [], ◌∷◌, ◌++◌, Some, None, Option}
+use Rattle.std.specs.Prelude.{ℕ, ◌/◌, ◌%◌, List, [], ◌∷◌, Some, None, Option}
 use Rattle.field.specs.declared.Act.{Act}
 use Rattle.field.specs.declared.Act.TheVariants.{Play, Damage as Damages}
-use Rattle.field.specs.declared.Damage.{Damage}
 use Rattle.field.specs.declared.Link.{Link}
 use Rattle.field.specs.declared.Loss.{Loss}
 use Rattle.field.specs.declared.Row.{Row}

@@ -1,5 +1,5 @@
 -- What the lowest place is. Assumes nothing.
-use Rattle.std.proofs.Common.{◌≡◌, ℕ, zero, suc, ◌+◌, ◌-◌, ◌<◌, ◌≤◌, Bool, true, false, Some, None, Option, sym, refl, ap, ◌∙◌, subst, suc-add, zero-add, add-one, arith, below_more}
+use Rattle.std.proofs.Common.{◌≡◌, ℕ, zero, suc, ◌+◌, ◌-◌, ◌<◌, Bool, true, false, Some, None, Option, sym, refl, subst, suc-add, zero-add, add-one, arith, below_more}
 use Rattle.search.specs.Lowest.{lowest, IsLowest}
 
 module _ (holds : ℕ → Bool) where

@@ -1,4 +1,4 @@
-use Rattle.std.proofs.Common.{refl, arith, rules}
+use Rattle.std.proofs.Common.{refl, arith}
 use Rattle.page.proofs.Wrotes.{none_joined, one_joined, all_joined}
 use Rattle.page.proofs.put.Goals as goal
 

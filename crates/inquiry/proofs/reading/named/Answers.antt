@@ -1,4 +1,4 @@
-use Rattle.std.proofs.Common.{◌≡◌, codes}
+use Rattle.std.proofs.Common.{codes}
 use Rattle.inquiry.proofs.Numbers.{apart}
 use Rattle.inquiry.proofs.reading.named.Goals as goal
 

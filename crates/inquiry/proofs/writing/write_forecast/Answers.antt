@@ -1,6 +1,6 @@
 use Rattle.std.proofs.Common.{ℕ, List, ◌++◌, vec_items, string_bytes, refl, ap, ◌∙◌}
 use Rattle.hearing.specs.declared.Heard.{Heard}
-use Rattle.inquiry.specs.Written.{bound_line, flood_lines, stop_line}
+use Rattle.inquiry.specs.Written.{flood_lines, stop_line}
 use Rattle.inquiry.proofs.Lines.{written_in_turn}
 use Rattle.inquiry.proofs.writing.write_forecast.Goals as goal
 

@@ -1,4 +1,4 @@
-use Rattle.std.proofs.Common.{◌≡◌, ℕ, ap, arith}
+use Rattle.std.proofs.Common.{◌≡◌, ap, arith}
 use Rattle.page.proofs.Wrotes.{wrote_as}
 use Rattle.records.specs.Records.{records}
 use Rattle.listing.specs.Lines.{lines}
