@@ -2,6 +2,7 @@
 #![tactic(auto)]
 
 use inquiry::reply;
+use std::process::ExitCode;
 use std::{env, io};
 
 const USAGE: &str = "usage: bound NUMBERING [SMAX] HELD BASE
@@ -36,11 +37,20 @@ fn answer(rt: &HostRuntime, words: &[String]) -> io::Result<()> {
     }
 }
 
-fn main(rt: HostRuntime) -> io::Result<()> {
-    let words: Vec<String> = env::args(&rt)?.skip(1).collect(rt.alloc())?;
+fn run(rt: &HostRuntime, words: &[String]) -> io::Result<()> {
     match words.first() {
         Some(word) if word.as_str() == "--help" => rt.print(USAGE),
-        _ => answer(&rt, words.as_slice()),
+        _ => answer(rt, words),
+    }
+}
+
+fn main(rt: HostRuntime) -> io::Result<ExitCode> {
+    let words: Vec<String> = env::args(&rt)?.skip(1).collect(rt.alloc())?;
+    match run(&rt, words.as_slice()) {
+        Ok(()) => Ok(ExitCode::SUCCESS),
+        // a complaint was told already
+        Err(error) if error.kind() == io::ErrorKind::InvalidInput => Ok(ExitCode::FAILURE),
+        Err(error) => Err(error),
     }
 }
 

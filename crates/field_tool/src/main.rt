@@ -9,6 +9,7 @@ use listing::Listing;
 use page::{Text, write};
 use refusal::FieldFault;
 use std::io::Read;
+use std::process::ExitCode;
 use std::{env, fs, io};
 
 const USAGE: &str = "usage: field_tool show FILE
@@ -74,14 +75,23 @@ fn show(rt: &HostRuntime, name: &str) -> io::Result<()> {
     }
 }
 
-fn main(rt: HostRuntime) -> io::Result<()> {
-    let words: Vec<String> = env::args(&rt)?.skip(1).collect(rt.alloc())?;
-    match words.as_slice() {
+fn run(rt: &HostRuntime, words: &[String]) -> io::Result<()> {
+    match words {
         [word] if word.as_str() == "--help" => rt.print(USAGE),
-        [word, name] if word.as_str() == "show" => show(&rt, name.as_str()),
+        [word, name] if word.as_str() == "show" => show(rt, name.as_str()),
         _ => {
             eprintln!(rt; "field_tool: it is called as field_tool show FILE, or with --help")?;
             Err(invalid())
         }
+    }
+}
+
+fn main(rt: HostRuntime) -> io::Result<ExitCode> {
+    let words: Vec<String> = env::args(&rt)?.skip(1).collect(rt.alloc())?;
+    match run(&rt, words.as_slice()) {
+        Ok(()) => Ok(ExitCode::SUCCESS),
+        // what is wrong was told already
+        Err(error) if error.kind() == io::ErrorKind::InvalidInput => Ok(ExitCode::FAILURE),
+        Err(error) => Err(error),
     }
 }

@@ -36,25 +36,25 @@ abbrev pub two : (List ℕ → List ℕ → Answer) → List (List ℕ) → Answ
 two f words = elim (pair_of words) [ None ↦ Err Words | Some p ↦ f p.0 p.1 ]
 
 -- an smax, and then the words that a numbering over 0 to smax takes
-abbrev pub after-smax : (ℕ → List (List ℕ) → Answer) → List (List ℕ) → Answer
-after-smax f words = elim (first_of words) [ None ↦ Err Words | Some p ↦ elim (smax_in p.0) [ None ↦ Err Smax | Some smax ↦ f smax p.1 ] ]
+abbrev pub after_smax : (ℕ → List (List ℕ) → Answer) → List (List ℕ) → Answer
+after_smax f words = elim (first_of words) [ None ↦ Err Words | Some p ↦ elim (smax_in p.0) [ None ↦ Err Smax | Some smax ↦ f smax p.1 ] ]
 
 -- free does not settle, whichever lawful numbers are held
-abbrev pub free-answer : List ℕ → List ℕ → Answer
-free-answer held base = elim (lawful_in free zero_of held) [ None ↦ Err Held | Some x ↦ elim (lawful_in free zero_of base) [ None ↦ Err Base | Some b ↦ Ok free_text ] ]
+abbrev pub free_answer : List ℕ → List ℕ → Answer
+free_answer held base = elim (lawful_in free zero_of held) [ None ↦ Err Held | Some x ↦ elim (lawful_in free zero_of base) [ None ↦ Err Base | Some b ↦ Ok free_text ] ]
 
-abbrev pub circular-answer : ℕ → List (List ℕ) → Answer
-circular-answer smax = two (settling (circular smax) (half smax) (λ x b. circular_catch_up smax) (below 256) (λ x. x))
+abbrev pub circular_answer : ℕ → List (List ℕ) → Answer
+circular_answer smax = two (settling (circular smax) (half smax) (λ x b. circular_catch_up smax) (below 256) (λ x. x))
 
-abbrev pub differentiated-answer : ℕ → List (List ℕ) → Answer
-differentiated-answer smax = two (settling (differentiated smax) smax (λ x b. smax) (below 256) (λ x. x))
+abbrev pub differentiated_answer : ℕ → List (List ℕ) → Answer
+differentiated_answer smax = two (settling (differentiated smax) smax (λ x b. smax) (below 256) (λ x. x))
 
-abbrev pub answer-named : Name → List (List ℕ) → Answer
-answer-named Free = two free-answer
-answer-named Linear = two (settling linear linear_patience linear_catch_up (below (2 ^ 32)) (λ x. x))
-answer-named Circular = after-smax circular-answer
-answer-named Differentiated = after-smax differentiated-answer
+abbrev pub answer_named : Name → List (List ℕ) → Answer
+answer_named Free = two free_answer
+answer_named Linear = two (settling linear linear_patience linear_catch_up (below (2 ^ 32)) (λ x. x))
+answer_named Circular = after_smax circular_answer
+answer_named Differentiated = after_smax differentiated_answer
 
 -- Words are read from left to right, the numbering's name first, and the first that is wrong is told.
 abbrev pub answer : List (List ℕ) → Answer
-answer words = elim (first_of words) [ None ↦ Err Words | Some p ↦ elim (named p.0) [ None ↦ Err Numbering | Some n ↦ answer-named n p.1 ] ]
+answer words = elim (first_of words) [ None ↦ Err Words | Some p ↦ elim (named p.0) [ None ↦ Err Numbering | Some n ↦ answer_named n p.1 ] ]

@@ -1,6 +1,6 @@
 // What `bound` answers to its words.
 ghost use Rattle.std.specs.Prelude.{map, string_bytes};
-ghost use Rattle.inquiry.specs.Answers.{Says, settling, two, after-smax, free-answer, circular-answer, differentiated-answer, answer};
+ghost use Rattle.inquiry.specs.Answers.{Says, settling, two, after_smax, free_answer, circular_answer, differentiated_answer, answer};
 
 use crate::complaint::Complaint;
 use crate::reading::{Name, circular_in, differentiated_in, first_of, lawful_in, named, pair_of};
@@ -46,7 +46,7 @@ fn report_words<N: Settling>(
 }
 
 fn reply_circular(heap: Global, words: &[String]) -> Result<String, Complaint>
-    ensures { Says (after-smax circular-answer (map string_bytes words.now)) result }
+    ensures { Says (after_smax circular_answer (map string_bytes words.now)) result }
 {
     let Some((smax, rest)) = first_of(words) else {
         return Err(Complaint::Words);
@@ -58,7 +58,7 @@ fn reply_circular(heap: Global, words: &[String]) -> Result<String, Complaint>
 }
 
 fn reply_differentiated(heap: Global, words: &[String]) -> Result<String, Complaint>
-    ensures { Says (after-smax differentiated-answer (map string_bytes words.now)) result }
+    ensures { Says (after_smax differentiated_answer (map string_bytes words.now)) result }
 {
     let Some((smax, rest)) = first_of(words) else {
         return Err(Complaint::Words);
@@ -71,7 +71,7 @@ fn reply_differentiated(heap: Global, words: &[String]) -> Result<String, Compla
 
 // Free has lawful numbers, but no patience and no catch-up count.
 fn reply_free(heap: Global, words: &[String]) -> Result<String, Complaint>
-    ensures { Says (two free-answer (map string_bytes words.now)) result }
+    ensures { Says (two free_answer (map string_bytes words.now)) result }
 {
     let Some((held, base)) = pair_of(words) else {
         return Err(Complaint::Words);
@@ -80,7 +80,7 @@ fn reply_free(heap: Global, words: &[String]) -> Result<String, Complaint>
 }
 
 fn report_free(heap: Global, held: &str, base: &str) -> Result<String, Complaint>
-    ensures { Says (free-answer held.now base.now) result }
+    ensures { Says (free_answer held.now base.now) result }
 {
     if lawful_in(&Free, held).is_none() {
         return Err(Complaint::Held);

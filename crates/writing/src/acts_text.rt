@@ -2,7 +2,7 @@
 ghost use Rattle.std.specs.Prelude.{◌≡◌};
 ghost use Rattle.vetting.specs.Acts.{acts_vetted};
 ghost use Rattle.recording.specs.Bytes.{act_bytes};
-ghost use Rattle.writing.specs.Answers.{write-answer, write-page};
+ghost use Rattle.writing.specs.Answers.{write_answer, write_page};
 
 use crate::in_turn::put_records;
 use field::{Act, Settings};
@@ -31,8 +31,8 @@ pub fn write_acts<N: Numbering>(
     acts: &[Act<N::Number>],
     out: &mut [u8],
 ) -> Result<usize, RunFault>
-    ensures value { result ≡ write-answer (acts_vetted (N.Numbering.meaning numbering.now) settings acts.now) (act_bytes N.Number.NumberKind.worth acts.now) out.old }
-    ensures out { out.new ≡ write-page (acts_vetted (N.Numbering.meaning numbering.now) settings acts.now) (act_bytes N.Number.NumberKind.worth acts.now) out.old }
+    ensures value { result ≡ write_answer (acts_vetted (N.Numbering.meaning numbering.now) settings acts.now) (act_bytes N.Number.NumberKind.worth acts.now) out.old }
+    ensures out { out.new ≡ write_page (acts_vetted (N.Numbering.meaning numbering.now) settings acts.now) (act_bytes N.Number.NumberKind.worth acts.now) out.old }
 {
     match vet_acts(numbering, settings, acts) {
         Ok(()) => write(&ActsText { acts }, out).ok_or(RunFault::NoRoom),

@@ -4,7 +4,7 @@ ghost use Rattle.page.specs.Pages.{Wrote, joined};
 ghost use Rattle.recording.specs.Records.{head_record, row_record};
 ghost use Rattle.vetting.specs.Vetted.{vetted};
 ghost use Rattle.recording.specs.Bytes.{field_bytes};
-ghost use Rattle.writing.specs.Answers.{write-answer, write-page};
+ghost use Rattle.writing.specs.Answers.{write_answer, write_page};
 
 use crate::in_turn::put_records;
 use field::{Link, Loss, Row, Settings};
@@ -75,8 +75,8 @@ pub fn write_field<N: Filed>(
     losses: &[Loss],
     out: &mut [u8],
 ) -> Result<usize, RunFault>
-    ensures value { result ≡ write-answer (vetted (N.Numbering.meaning numbering.now) settings rows.now links.now losses.now) (field_bytes N.Number.NumberKind.worth (N.Filed.coded numbering.now) (N.Filed.top numbering.now) settings rows.now links.now losses.now) out.old }
-    ensures out { out.new ≡ write-page (vetted (N.Numbering.meaning numbering.now) settings rows.now links.now losses.now) (field_bytes N.Number.NumberKind.worth (N.Filed.coded numbering.now) (N.Filed.top numbering.now) settings rows.now links.now losses.now) out.old }
+    ensures value { result ≡ write_answer (vetted (N.Numbering.meaning numbering.now) settings rows.now links.now losses.now) (field_bytes N.Number.NumberKind.worth (N.Filed.coded numbering.now) (N.Filed.top numbering.now) settings rows.now links.now losses.now) out.old }
+    ensures out { out.new ≡ write_page (vetted (N.Numbering.meaning numbering.now) settings rows.now links.now losses.now) (field_bytes N.Number.NumberKind.worth (N.Filed.coded numbering.now) (N.Filed.top numbering.now) settings rows.now links.now losses.now) out.old }
 {
     match vet(numbering, settings, rows, links, losses) {
         Ok(()) => write(
