@@ -59,7 +59,7 @@ mod tests {
     use super::*;
     use std::test::Fail;
 
-    // An error from `main` is what ends the program with status 1.
+    // A complaint is an error, for which `main` answers status 1.
     #[test]
     fn a_wrong_word_is_an_error(rt: HostRuntime) -> Result<(), Fail> {
         let mut words = Vec::new(rt.alloc());
