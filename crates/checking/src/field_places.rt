@@ -68,7 +68,7 @@ pub fn bad_setting(file: &[u8]) -> bool
     !(made.is_ok() && code_keeps(byte(file, 0, 1), byte(file, 0, 5)))
 }
 
-fn link_at(file: &[u8], k: usize) -> Link
+pub fn link_at(file: &[u8], k: usize) -> Link
     ensures { result ≡ link_at file.now k }
 {
     Link {
@@ -142,7 +142,7 @@ pub fn too_many(file: &[u8], k: usize) -> bool
         || is_kind(file, k, Kind::Loss) && k >= 256 && is_kind(file, k - 256, Kind::Loss)
 }
 
-fn mark_at(file: &[u8], k: usize) -> Option<u8>
+pub fn mark_at(file: &[u8], k: usize) -> Option<u8>
     ensures { result ≡ mark_at file.now k }
 {
     match byte(file, k, 2) {

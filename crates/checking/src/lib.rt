@@ -7,3 +7,4 @@ mod field_places;
 mod record_places;
 
 pub use check::{check_file, check_records};
+pub use field_places::{link_at, mark_at};

@@ -1,7 +1,12 @@
-// What a refusal of a file says.
+// What the refusal of a file says is wrong.
+ghost use Rattle.std.specs.Prelude.{◌≡◌};
+ghost use Rattle.field_tool.specs.Causes.{record_cause, cause};
+
 use refusal::{FieldFault, RecordFault};
 
-fn record_cause(fault: RecordFault) -> &'static str {
+fn record_cause(fault: RecordFault) -> &'static str
+    ensures { result.now ≡ record_cause fault }
+{
     match fault {
         RecordFault::BadLength => "the file is longer than 48,000 bytes or no multiple of 12",
         RecordFault::UnknownKind(_) => "its kind is none of F, S, L, X and P",
@@ -9,7 +14,9 @@ fn record_cause(fault: RecordFault) -> &'static str {
     }
 }
 
-pub fn cause(fault: FieldFault) -> &'static str {
+pub fn cause(fault: FieldFault) -> &'static str
+    ensures { result.now ≡ cause fault }
+{
     match fault {
         FieldFault::Record(fault) => record_cause(fault),
         FieldFault::OutOfOrder(_) => "a record is missing here, or stands out of order",

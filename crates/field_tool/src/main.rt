@@ -6,7 +6,7 @@ mod causes;
 use causes::cause;
 use checking::check_file;
 use listing::Listing;
-use page::{Text, write};
+use page::Text;
 use refusal::FieldFault;
 use std::io::Read;
 use std::process::ExitCode;
@@ -31,10 +31,6 @@ and standard error says what is wrong and where. A refusal, and a file that
 cannot be read, end with status 1.
 ";
 
-fn invalid() -> io::Error {
-    io::Error::from(io::ErrorKind::InvalidInput)
-}
-
 fn contents(rt: &HostRuntime, name: &str) -> io::Result<Vec<u8>> {
     if name == "-" {
         let mut file = Vec::new(rt.alloc());
@@ -45,29 +41,28 @@ fn contents(rt: &HostRuntime, name: &str) -> io::Result<Vec<u8>> {
     }
 }
 
-fn refuse(rt: &HostRuntime, fault: FieldFault) -> io::Result<()> {
+fn refuse(rt: &HostRuntime, fault: FieldFault) -> io::Result<ExitCode> {
     let told = fault.told();
     let number = told.number;
     let place = told.place;
     let why = cause(fault);
     println!(rt; "refusal {number} {place}")?;
     eprintln!(rt; "field_tool: record {place}: {why}")?;
-    Err(invalid())
+    Ok(ExitCode::FAILURE)
 }
 
-fn list(rt: &HostRuntime, file: &[u8]) -> io::Result<()> {
+fn list(rt: &HostRuntime, file: &[u8]) -> io::Result<ExitCode> {
     let listing = Listing { file };
     let mut page = vec![in rt.alloc(); 0u8; listing.put(&mut [], 0)]?;
-    match write(&listing, page.as_mut_slice()) {
-        Some(_) => rt.write_all(page.as_slice()),
-        None => Err(invalid()),
-    }
+    listing.put(page.as_mut_slice(), 0);
+    rt.write_all(page.as_slice())?;
+    Ok(ExitCode::SUCCESS)
 }
 
-fn show(rt: &HostRuntime, name: &str) -> io::Result<()> {
+fn show(rt: &HostRuntime, name: &str) -> io::Result<ExitCode> {
     let Ok(file) = contents(rt, name) else {
         eprintln!(rt; "field_tool: {name} cannot be read")?;
-        return Err(invalid());
+        return Ok(ExitCode::FAILURE);
     };
     match check_file(file.as_slice()) {
         Ok(()) => list(rt, file.as_slice()),
@@ -75,23 +70,17 @@ fn show(rt: &HostRuntime, name: &str) -> io::Result<()> {
     }
 }
 
-fn run(rt: &HostRuntime, words: &[String]) -> io::Result<()> {
-    match words {
-        [word] if word.as_str() == "--help" => rt.print(USAGE),
-        [word, name] if word.as_str() == "show" => show(rt, name.as_str()),
-        _ => {
-            eprintln!(rt; "field_tool: it is called as field_tool show FILE, or with --help")?;
-            Err(invalid())
-        }
-    }
-}
-
 fn main(rt: HostRuntime) -> io::Result<ExitCode> {
     let words: Vec<String> = env::args(&rt)?.skip(1).collect(rt.alloc())?;
-    match run(&rt, words.as_slice()) {
-        Ok(()) => Ok(ExitCode::SUCCESS),
-        // what is wrong was told already
-        Err(error) if error.kind() == io::ErrorKind::InvalidInput => Ok(ExitCode::FAILURE),
-        Err(error) => Err(error),
+    match words.as_slice() {
+        [word] if word.as_str() == "--help" => {
+            rt.print(USAGE)?;
+            Ok(ExitCode::SUCCESS)
+        }
+        [word, name] if word.as_str() == "show" => show(&rt, name.as_str()),
+        _ => {
+            eprintln!(rt; "field_tool: it is called as field_tool show FILE, or with --help")?;
+            Ok(ExitCode::FAILURE)
+        }
     }
 }

@@ -4,7 +4,8 @@ use Rattle.field.specs.declared.Link.{Link}
 use Rattle.field.specs.declared.Loss.{Loss}
 use Rattle.records.specs.declared.Kind.TheVariants.{Link as LinkKind, Loss as LossKind, Play as PlayKind}
 use Rattle.records.specs.Records.{byte, two_bytes, four_bytes, is_kind}
-use Rattle.reading.specs.Items.{mark_at, link_at, loss_at}
+use Rattle.checking.specs.Cases.{mark_at, link_at}
+use Rattle.reading.specs.Items.{loss_at}
 
 abbrev pub numbering_name : ℕ → List ℕ
 numbering_name code = cond (code == 0) (codes "free") (cond (code == 1) (codes "linear") (cond (code == 2) (codes "circular") (codes "differentiated")))

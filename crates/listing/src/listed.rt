@@ -5,8 +5,9 @@ ghost use Rattle.records.specs.Records.{records};
 ghost use Rattle.listing.specs.Lines.{head_line, sensor_line, record_line, lines};
 
 use crate::lines::{Head, put_field, put_link, put_loss, put_play, put_row};
+use checking::{link_at, mark_at};
 use page::Text;
-use reading::{link_at, loss_at, mark_at};
+use reading::loss_at;
 use records::{Kind, byte, four_bytes, is_kind, record_count, two_bytes};
 
 fn put_head(page: &mut [u8], at: usize, file: &[u8]) -> usize

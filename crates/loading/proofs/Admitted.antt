@@ -1,6 +1,6 @@
 -- What is known of a file that is admitted. Assumes nothing.
 use Rattle.std.proofs.Common.{◌≡◌, ℕ, ◌≤◌, Bool, true, false, cond, ◌&&◌, eqb, leb, List, is_ok, Ok, Err, Result, refl, ap, eqb-true, leb-true}
-use Rattle.refusal.specs.Checks.{in_field}
+use Rattle.refusal.specs.Carried.{in_field}
 use Rattle.refusal.specs.declared.FieldFault.{FieldFault}
 use Rattle.refusal.specs.declared.RunFault.{RunFault}
 use Rattle.checking.specs.Cases.{file_checked, file_code, file_smax}

@@ -2,7 +2,8 @@
 use Rattle.std.proofs.Common.{◌≡◌, ℕ, zero, suc, ◌+◌, ◌*◌, ◌/◌, ◌%◌, ◌<◌, ◌≤◌, Bool, true, false, cond, eqb, List, [], ◌∷◌, length, get_or, take, drop, Some, None, sym, refl, ap, ◌∙◌, add-zero, arith, eqb-true}
 use Rattle.std.proofs.lemmas.List.{drop_more}
 use Rattle.records.specs.Records.{byte, two_bytes, four_bytes}
-use Rattle.reading.specs.Items.{mark_at, link_at, loss_at}
+use Rattle.checking.specs.Cases.{mark_at, link_at}
+use Rattle.reading.specs.Items.{loss_at}
 use Rattle.field.specs.declared.Settings.{Settings}
 use Rattle.field.specs.Making.{HasSettings}
 use Rattle.recording.specs.Records.{with_two, with_four, mark_byte, head_record, sensor_record, link_record, loss_record}

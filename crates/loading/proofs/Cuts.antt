@@ -3,10 +3,9 @@ use Rattle.std.proofs.Common.{◌≡◌, ℕ, ◌-◌, ◌*◌, ◌%◌, ◌<◌
 use Rattle.records.specs.declared.Kind.{Kind}
 use Rattle.records.specs.declared.Kind.TheVariants.{Field, Sensor, Link, Loss, Play}
 use Rattle.records.specs.Records.{records, byte, two_bytes, four_bytes, letter, is_kind}
-use Rattle.reading.specs.Items.{mark_at}
 use Rattle.field.specs.Rows.{clock_keeps}
 use Rattle.checking.specs.Codes.{lawful_value}
-use Rattle.checking.specs.Cases.{file_n, file_code, file_smax, file_hmax, file_tmax, file_f, zeros, sensor_zeros, link_zeros, loss_zeros, play_zeros, misplaced}
+use Rattle.checking.specs.Cases.{mark_at, file_n, file_code, file_smax, file_hmax, file_tmax, file_f, zeros, sensor_zeros, link_zeros, loss_zeros, play_zeros, misplaced}
 use Rattle.checking.proofs.Passes.{Passed}
 
 pub impossible : {P : Type 0} → false ≡ true → P

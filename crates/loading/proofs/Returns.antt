@@ -3,12 +3,12 @@ use Rattle.std.proofs.Common.{◌≡◌, ℕ, ◌+◌, ◌-◌, ◌*◌, ◌<◌
 use Rattle.records.specs.declared.Kind.TheVariants.{Sensor, Link, Loss}
 use Rattle.records.specs.Records.{records, byte, two_bytes, four_bytes, is_kind}
 use Rattle.page.specs.Pages.{joined}
-use Rattle.reading.specs.Items.{row_at, link_at, loss_at, mark_at}
+use Rattle.reading.specs.Items.{row_at, loss_at}
 use Rattle.recording.specs.Records.{head_record, row_record, link_record, loss_record}
 use Rattle.field.specs.declared.Link.{Link as Linked}
 use Rattle.field.specs.declared.Loss.{Loss as Lost}
 use Rattle.sections.specs.Parts.{leading, past_rows, past_links, row_records, link_records, loss_records, act_records}
-use Rattle.checking.specs.Cases.{file_n, file_code, file_smax}
+use Rattle.checking.specs.Cases.{link_at, mark_at, file_n, file_code, file_smax}
 use Rattle.checking.proofs.Passes.{Passed}
 use Rattle.checking.specs.Codes.{lawful_value}
 use Rattle.field.specs.declared.Row.{Row}

@@ -1,6 +1,6 @@
 -- What loading a file answers, and what the buffers then hold. Assumes nothing.
 use Rattle.std.specs.Prelude.{◌≡◌, ℕ, Bool, cond, ◌&&◌, List, ◌++◌, length, take, Some, Ok, Err, Option, Result, ◌==◌, nat_le}
-use Rattle.refusal.specs.Checks.{in_field}
+use Rattle.refusal.specs.Carried.{in_field}
 use Rattle.refusal.specs.declared.FieldFault.TheVariants.{BadSetting}
 use Rattle.refusal.specs.declared.RunFault.{RunFault}
 use Rattle.refusal.specs.declared.RunFault.TheVariants.{Field, ShortBuffer}
@@ -11,11 +11,11 @@ use Rattle.field.specs.declared.Row.{Row}
 use Rattle.field.specs.declared.Settings.{Settings}
 use Rattle.field.specs.Making.{HasSettings}
 use Rattle.filling.specs.Filled.{filled}
-use Rattle.reading.specs.Items.{row_at, link_at, loss_at, act_at}
+use Rattle.reading.specs.Items.{row_at, loss_at, act_at}
 use Rattle.recording.specs.Bytes.{field_bytes}
 use Rattle.records.specs.Records.{records, four_bytes}
 use Rattle.sections.specs.Parts.{row_records, link_records, loss_records, act_records}
-use Rattle.checking.specs.Cases.{then, file_checked, file_code, file_n, file_hmax, file_tmax, file_smax, file_f}
+use Rattle.checking.specs.Cases.{then, link_at, file_checked, file_code, file_n, file_hmax, file_tmax, file_smax, file_f}
 use Rattle.loading.specs.declared.counts.Counts.{Counts}
 use Rattle.loading.specs.declared.loads.Loaded.{Loaded}
 

@@ -1,12 +1,14 @@
 // What the caller's buffers are filled with.
 ghost use Rattle.std.specs.Prelude.{Some};
 ghost use Rattle.records.specs.Records.{records};
-ghost use Rattle.reading.specs.Items.{row_at, link_at, loss_at, act_at};
+ghost use Rattle.reading.specs.Items.{row_at, loss_at, act_at};
+ghost use Rattle.checking.specs.Cases.{link_at};
 
+use checking::link_at;
 use field::{Act, Link, Loss, Row};
 use filling::Source;
 use numbering::Numbering;
-use reading::{act_at, link_at, loss_at, row_at};
+use reading::{act_at, loss_at, row_at};
 use records::record_count;
 
 #[derive(Drop)]

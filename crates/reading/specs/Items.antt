@@ -1,22 +1,15 @@
 -- What each record is read as. Assumes nothing.
 use Rattle.std.specs.Prelude.{ℕ, cond, List, Some, None, Option, ◌==◌}
 use Rattle.records.specs.declared.Kind.TheVariants.{Play as PlayKind}
+use Rattle.checking.specs.Cases.{mark_at}
 use Rattle.records.specs.Records.{byte, two_bytes, four_bytes, is_kind}
 use Rattle.field.specs.declared.Act.{Act}
 use Rattle.field.specs.declared.Act.TheVariants.{Play, Damage as Damages}
 use Rattle.field.specs.declared.Damage.{Damage}
-use Rattle.field.specs.declared.Link.{Link}
 use Rattle.field.specs.declared.Loss.{Loss}
 use Rattle.field.specs.declared.Row.{Row}
 
 module _ (file : List ℕ) (k : ℕ) where
-  -- a mark byte of 255 is an absent mark
-  abbrev pub mark_at : Option ℕ
-  mark_at = cond (byte file k 2 == 255) None (Some (byte file k 2))
-
-  abbrev pub link_at : Link
-  link_at = record { from = byte file k 1; to = byte file k 2; label = byte file k 3 }
-
   abbrev pub loss_at : Loss
   loss_at = record { from = byte file k 1; to = byte file k 2; instant = four_bytes file k 4 }
 

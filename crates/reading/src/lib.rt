@@ -2,30 +2,12 @@
 #![tactic(auto)]
 
 ghost use Rattle.std.specs.Prelude.{◌≡◌};
-ghost use Rattle.reading.specs.Items.{mark_at, link_at, loss_at, row_at, damage_at, act_at};
+ghost use Rattle.reading.specs.Items.{loss_at, row_at, damage_at, act_at};
 
-use field::{Act, Damage, Link, Loss, Row};
+use checking::mark_at;
+use field::{Act, Damage, Loss, Row};
 use numbering::NumberKind;
 use records::{Kind, byte, four_bytes, is_kind, two_bytes};
-
-pub fn mark_at(file: &[u8], k: usize) -> Option<u8>
-    ensures { result ≡ mark_at file.now k }
-{
-    match byte(file, k, 2) {
-        255 => None,
-        hop => Some(hop),
-    }
-}
-
-pub fn link_at(file: &[u8], k: usize) -> Link
-    ensures { result ≡ link_at file.now k }
-{
-    Link {
-        from: byte(file, k, 1),
-        to: byte(file, k, 2),
-        label: byte(file, k, 3),
-    }
-}
 
 pub fn loss_at(file: &[u8], k: usize) -> Loss
     ensures { result ≡ loss_at file.now k }

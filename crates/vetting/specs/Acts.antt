@@ -1,6 +1,7 @@
 -- The cases in which acts are not written: each a test at a place. Assumes nothing.
 use Rattle.std.specs.Prelude.{ℕ, Bool, false, not, ◌&&◌, List, length, Result, nat_lt}
-use Rattle.refusal.specs.Checks.{then, in_field}
+use Rattle.checking.specs.Cases.{then}
+use Rattle.refusal.specs.Carried.{in_field}
 use Rattle.refusal.specs.declared.FieldFault.{FieldFault}
 use Rattle.refusal.specs.declared.FieldFault.TheVariants.{NoSensor, BadRow}
 use Rattle.refusal.specs.declared.RunFault.{RunFault}

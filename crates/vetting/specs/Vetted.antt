@@ -1,7 +1,8 @@
 -- The cases in which a field is not written: each a test at a place. Assumes nothing.
 use Rattle.std.specs.Prelude.{ℕ, max, Bool, false, cond, not, ◌&&◌, ◌||◌, List, length, is_some, Some, None, Ok, Err, Result, ◌==◌, nat_lt}
 use Rattle.std.specs.List.{slice_get}
-use Rattle.refusal.specs.Checks.{then, in_field}
+use Rattle.checking.specs.Cases.{then}
+use Rattle.refusal.specs.Carried.{in_field}
 use Rattle.refusal.specs.declared.FieldFault.{FieldFault}
 use Rattle.refusal.specs.declared.FieldFault.TheVariants.{NoSensor, BadLink, TooMany, BadRow, NoLink}
 use Rattle.refusal.specs.declared.RunFault.{RunFault}
