@@ -2,8 +2,7 @@
 use Rattle.std.proofs.Common.{◌≡◌, ℕ, ◌^◌, Bool, true, false, List, length, Some, Ok, Err, Decides, Result, sym, refl, ap, ◌∙◌}
 use Rattle.std.specs.Result.{OkIff, result_ok}
 use Rattle.std.specs.Str.Parse.{digits_value, without_leading_plus, ParsesUnsigned}
-use Rattle.std.specs.Str.{all_ascii_digits, bytes_eq}
-use Rattle.std.proofs.lemmas.Slice.Eq.{bytes_eq-Decides}
+use Rattle.std.specs.Str.{all_ascii_digits}
 use Rattle.std.proofs.lemmas.Str.Parse.{IsNumeralModel, numerals_by_value, tells_all_ascii_digits}
 use Rattle.std.proofs.lemmas.Bool.Decides.{Decides-and, Decides-ltb}
 use Rattle.numbering.specs.Kinds.{given}
@@ -23,11 +22,3 @@ reads_number word r =
     let digits = without_leading_plus word in
     let numeral = Decides-and _ _ (Decides-ltb 0 (length digits)) (own.to digits, own.from digits) in
     converted_given r (digits_value 10 digits) _ (Decides-and _ _ numeral (Decides-ltb (digits_value 10 digits) (2 ^ 32)))
-
--- texts that differ
-pub apart : (xs ys : List ℕ) → (xs ≡ ys → ⊥) → bytes_eq xs ys ≡ false
-apart xs ys differ = by (bytes_eq xs ys) refl
-  where
-    by : (b : Bool) → bytes_eq xs ys ≡ b → bytes_eq xs ys ≡ false
-    by true e = absurd (differ ((bytes_eq-Decides xs ys).0 e))
-    by false e = e

@@ -47,6 +47,7 @@ pub fn named(word: &str) -> Option<Name>
 }
 
 // The number of 32 bits that a word writes in decimal.
+#[tactic(auto, using(crate::proofs::Numbers::reads_number))]
 pub fn number_in(word: &str) -> Option<u32>
     ensures { result ≡ number_in word.now }
 {

@@ -29,6 +29,7 @@ pub struct Head {
     pub seed: u32,
 }
 
+#[tactic(auto, unfolding(crate::specs::Lines::field_line))]
 pub fn put_field(page: &mut [u8], at: usize, head: Head) -> usize
     ensures { Wrote page.old at (field_line head.code head.smax head.n head.hmax head.tmax head.f head.seed) page.new result }
 {
@@ -64,6 +65,7 @@ fn mark_piece(mark: Option<u8>) -> Piece<'static>
     }
 }
 
+#[tactic(auto, unfolding(crate::specs::Lines::row_line))]
 pub fn put_row(
     page: &mut [u8],
     at: usize,
@@ -93,6 +95,7 @@ pub fn put_row(
     )
 }
 
+#[tactic(auto, unfolding(crate::specs::Lines::link_line))]
 pub fn put_link(page: &mut [u8], at: usize, link: Link) -> usize
     ensures { Wrote page.old at (link_line link) page.new result }
 {
@@ -111,6 +114,7 @@ pub fn put_link(page: &mut [u8], at: usize, link: Link) -> usize
     )
 }
 
+#[tactic(auto, unfolding(crate::specs::Lines::loss_line))]
 pub fn put_loss(page: &mut [u8], at: usize, loss: Loss) -> usize
     ensures { Wrote page.old at (loss_line loss) page.new result }
 {
@@ -129,6 +133,7 @@ pub fn put_loss(page: &mut [u8], at: usize, loss: Loss) -> usize
     )
 }
 
+#[tactic(auto, unfolding(crate::specs::Lines::play_line))]
 pub fn put_play(page: &mut [u8], at: usize, budget: u32) -> usize
     ensures { Wrote page.old at (play_line budget) page.new result }
 {

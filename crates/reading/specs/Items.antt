@@ -1,5 +1,5 @@
 -- What each record is read as. Assumes nothing.
-use Rattle.std.specs.Prelude.{ℕ, cond, List, Some, None, Option, ◌==◌}
+use Rattle.std.specs.Prelude.{ℕ, cond, List, Some, None, Option}
 use Rattle.records.specs.declared.Kind.TheVariants.{Play as PlayKind}
 use Rattle.checking.specs.Cases.{mark_at}
 use Rattle.records.specs.Records.{byte, two_bytes, four_bytes, is_kind}

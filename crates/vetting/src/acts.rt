@@ -72,6 +72,7 @@ impl<'n, 'a, N: Numbering> Case for OfActs<'n, 'a, N> {
     }
 }
 
+#[tactic(auto, unfolding(crate::specs::Acts::act_case))]
 fn pass_acts<N: Numbering>(
     numbering: &N,
     settings: Settings,

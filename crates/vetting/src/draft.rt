@@ -59,6 +59,7 @@ impl<'n, 'r, 'l, 'x, N: Numbering> Case for OfDraft<'n, 'r, 'l, 'x, N> {
     }
 }
 
+#[tactic(auto, unfolding(crate::specs::Vetted::draft_case))]
 fn pass_case<N: Numbering>(
     numbering: &N,
     settings: Settings,

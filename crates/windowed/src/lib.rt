@@ -3,7 +3,7 @@
 
 ghost use Rattle.std.specs.Prelude.{◌≡◌, ◌≤◌, MatchOption};
 ghost use Rattle.windowed.specs.Window.{windowed, window_catch_up};
-ghost use Rattle.std.proofs.Common.{rules, arith};
+ghost use Rattle.std.proofs.Common.{rules};
 ghost use Rattle.windowed.specs.WindowSettles.{window_settles};
 
 use numbering::{Numbering, Settling};
@@ -36,9 +36,9 @@ impl Numbering for Windowed {
 
     ghost meaning = { λ w. windowed w.window };
 
-    ghost follows = { first_of (Prim.search rules, Prim.grind (arith, Self.row.coded.inj)) };
+    ghost follows = { Prim.search rules };
 
-    ghost among = { first_of (Prim.search rules, Prim.grind (arith, Self.row.coded.inj)) };
+    ghost among = { Prim.search rules };
 
     fn lawful(&self, _number: Serial) -> bool {
         true
