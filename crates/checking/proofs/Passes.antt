@@ -1,5 +1,5 @@
 -- A file passes exactly where no case holds at any of its places. Assumes nothing.
-use Rattle.std.proofs.Common.{◌≡◌, ℕ, ◌+◌, ◌<◌, Bool, true, false, not, ◌&&◌, List, is_ok, Some, None, Ok, Err, Option, Result, sym, refl, arith}
+use Rattle.std.proofs.Common.{◌≡◌, ℕ, ◌+◌, ◌<◌, Bool, true, false, List, is_ok, Some, None, Ok, Err, Option, Result, refl, arith}
 use Rattle.refusal.specs.declared.RecordFault.{RecordFault}
 use Rattle.records.specs.Records.{records}
 use Rattle.search.specs.Lowest.{lowest, judged}
@@ -11,11 +11,10 @@ use Rattle.checking.specs.declared.cases.RecordCase.TheVariants.{Length, Kind, Z
 use Rattle.field.specs.SettingLimits.{settings_keep}
 use Rattle.checking.specs.Codes.{code_keeps}
 use Rattle.checking.specs.Cases.{record_places, record_at, record_fault, record_case, field_places, field_at, field_fault, field_case, records_checked, fields_checked, in_record, then, file_checked, file_code, file_n, file_hmax, file_tmax, file_smax, file_f, bad_length, not_zero, out_of_order, bad_row}
+use Rattle.std.proofs.lemmas.Bool.{and_parts, not-false}
 
-false_true : {P : Type 0} → false ≡ true → P
-false_true e =
-    let z : ◌≡◌ {A = ℕ} 0 1 = cc in
-    absurd (omega arith)
+pub false_true : {P : Type 0} → false ≡ true → P
+false_true e = absurd cc
 
 -- of two checks that pass one after the other, each passes
 pub then_first : {F : Type 0} (a b : Result (Unit {0}) F) → is_ok (then a b) ≡ true → is_ok a ≡ true
@@ -82,12 +81,7 @@ module _ (file : List ℕ) where
 
   -- so the settings keep their limits
   pub settings_kept : is_ok (file_checked file) ≡ true → (settings_keep (file_n file) (file_hmax file) (file_tmax file) (file_f file) ≡ true) × (code_keeps (file_code file) (file_smax file) ≡ true)
-  settings_kept ok = both (settings_keep (file_n file) (file_hmax file) (file_tmax file) (file_f file)) (code_keeps (file_code file) (file_smax file)) ((passes ok).of_field Setting 0 (omega arith))
-    where
-      both : (a b : Bool) → not (a && b) ≡ false → (a ≡ true) × (b ≡ true)
-      both true true e = (refl, refl)
-      both true false e = false_true (sym e)
-      both false b e = false_true (sym e)
+  settings_kept ok = and_parts _ _ (not-false _ ((passes ok).of_field Setting 0 (omega arith)))
 
   -- the same, case by case
   pub record Passed : Type 0 where

@@ -50,6 +50,7 @@ impl Case for OfRecords<'_> {
     }
 }
 
+#[tactic(auto, unfolding(crate::specs::Cases::record_case))]
 fn pass_record(file: &[u8], case: RecordCase) -> Result<(), RecordFault>
     ensures { result ≡ record_case file.now case }
 {
@@ -113,6 +114,7 @@ impl Case for OfField<'_> {
     }
 }
 
+#[tactic(auto, unfolding(crate::specs::Cases::field_case))]
 fn pass_field(file: &[u8], case: FieldCase) -> Result<(), FieldFault>
     ensures { result ≡ field_case file.now case }
 {

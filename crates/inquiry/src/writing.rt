@@ -1,5 +1,5 @@
 // A forecast as text.
-ghost use Rattle.std.specs.Prelude.{◌≡◌, true, ◌++◌, length, is_ok, string_bytes};
+ghost use Rattle.std.specs.Prelude.{◌≡◌, true, ◌++◌, is_ok, string_bytes};
 ghost use Rattle.inquiry.specs.Written.{bound_line, verdict_word, flood_line, flood_lines, stop_line, forecast_text};
 
 use hearing::{Forecast, Heard, Verdict};

@@ -1,5 +1,4 @@
 // The lines of a file, one behind another.
-ghost use Rattle.std.specs.Prelude.{◌≡◌, codes};
 ghost use Rattle.page.specs.Pages.{Wrote};
 ghost use Rattle.records.specs.Records.{records};
 ghost use Rattle.listing.specs.Lines.{head_line, sensor_line, record_line, lines};

@@ -4,10 +4,10 @@ use Rattle.refusal.specs.Carried.{in_field}
 use Rattle.refusal.specs.declared.FieldFault.{FieldFault}
 use Rattle.refusal.specs.declared.RunFault.{RunFault}
 use Rattle.checking.specs.Cases.{file_checked, file_code, file_smax}
-use Rattle.checking.proofs.Passes.{then_first, then_second}
+use Rattle.checking.proofs.Passes.{false_true, then_first, then_second}
 use Rattle.loading.specs.declared.counts.Counts.{Counts}
 use Rattle.loading.specs.Loads.{within, roomy, named_right, counted, admitted}
-use Rattle.loading.proofs.Cuts.{impossible, and_left, and_right}
+use Rattle.std.proofs.lemmas.Bool.{and_parts}
 
 in_field_ok : (a : Result (Unit {0}) FieldFault) → is_ok (in_field a) ≡ true → is_ok a ≡ true
 in_field_ok (Ok t) e = e
@@ -15,7 +15,7 @@ in_field_ok (Err fault) e = e
 
 cond_ok : (b : Bool) (fault : RunFault) → is_ok {T = Unit {0}} (cond {A = Result (Unit {0}) RunFault} b (Ok tt) (Err fault)) ≡ true → b ≡ true
 cond_ok true fault e = refl
-cond_ok false fault e = impossible e
+cond_ok false fault e = false_true e
 
 module _ (file : List ℕ) (code smax : ℕ) (room : Counts) where
   pub record Admitted : Type 0 where
@@ -33,13 +33,13 @@ module _ (file : List ℕ) (code smax : ℕ) (room : Counts) where
       let rest = then_second (in_field (file_checked file)) _ ok in
       let named = cond_ok (eqb code (file_code file) && eqb smax (file_smax file)) _ (then_first (named_right file code smax) _ rest) in
       let fit = cond_ok (within (counted file) room) _ (then_second (named_right file code smax) (roomy (counted file) room) rest) in
-      let first = and_left (leb (counted file).rows room.rows && leb (counted file).links room.links) _ fit in
-      let second = and_right (leb (counted file).rows room.rows && leb (counted file).links room.links) _ fit in
+      let first = (and_parts (leb (counted file).rows room.rows && leb (counted file).links room.links) _ fit).0 in
+      let second = (and_parts (leb (counted file).rows room.rows && leb (counted file).links room.links) _ fit).1 in
       record {
         checked = in_field_ok (file_checked file) (then_first (in_field (file_checked file)) _ ok);
-        coded = eqb-true code (file_code file) (and_left (eqb code (file_code file)) _ named);
-        topped = eqb-true smax (file_smax file) (and_right (eqb code (file_code file)) (eqb smax (file_smax file)) named);
-        rows = leb-true (counted file).rows room.rows (and_left (leb (counted file).rows room.rows) _ first);
-        links = leb-true (counted file).links room.links (and_right (leb (counted file).rows room.rows) (leb (counted file).links room.links) first);
-        losses = leb-true (counted file).losses room.losses (and_left (leb (counted file).losses room.losses) _ second);
+        coded = eqb-true code (file_code file) ((and_parts (eqb code (file_code file)) _ named).0);
+        topped = eqb-true smax (file_smax file) ((and_parts (eqb code (file_code file)) (eqb smax (file_smax file)) named).1);
+        rows = leb-true (counted file).rows room.rows ((and_parts (leb (counted file).rows room.rows) _ first).0);
+        links = leb-true (counted file).links room.links ((and_parts (leb (counted file).rows room.rows) (leb (counted file).links room.links) first).1);
+        losses = leb-true (counted file).losses room.losses ((and_parts (leb (counted file).losses room.losses) _ second).0);
       }

@@ -7,7 +7,7 @@ use Rattle.search.specs.Lowest.{lowest, IsLowest}
 use Rattle.search.proofs.Places.{is_lowest}
 use Rattle.sections.specs.Parts.{leading, other_kind}
 use Rattle.loading.proofs.Chunks.{Bytes}
-use Rattle.loading.proofs.Cuts.{not_false}
+use Rattle.std.proofs.lemmas.Bool.{not-false}
 
 -- `count` records from record `start` on
 abbrev pub part : ℕ → ℕ → List ℕ → List ℕ
@@ -46,8 +46,8 @@ part_fits start count file fits i = by (leb (length (part start count file)) i) 
 
 module _ (file : List ℕ) (kind : Kind) where
   leads : (o : Option ℕ) → IsLowest (other_kind file kind) (records file) o → (unwrap_or o (records file) ≤ records file) × ((i : ℕ) → i < unwrap_or o (records file) → is_kind file i kind ≡ true)
-  leads None all = (omega arith, λ i h. not_false (is_kind file i kind) (all i h))
-  leads (Some place) first = (omega (arith, first.0), λ i h. not_false (is_kind file i kind) (first.2 i h))
+  leads None all = (omega arith, λ i h. not-false (is_kind file i kind) (all i h))
+  leads (Some place) first = (omega (arith, first.0), λ i h. not-false (is_kind file i kind) (first.2 i h))
 
   pub leading_within : leading file kind ≤ records file
   unfolding leading

@@ -9,7 +9,7 @@ use Rattle.field.specs.declared.Link.{Link as Linked}
 use Rattle.field.specs.declared.Loss.{Loss as Lost}
 use Rattle.sections.specs.Parts.{leading, past_rows, past_links, row_records, link_records, loss_records, act_records}
 use Rattle.checking.specs.Cases.{link_at, mark_at, file_n, file_code, file_smax}
-use Rattle.checking.proofs.Passes.{Passed}
+use Rattle.checking.proofs.Passes.{false_true, Passed}
 use Rattle.checking.specs.Codes.{lawful_value}
 use Rattle.field.specs.declared.Row.{Row}
 use Rattle.filed.specs.Values.{lawful_of}
@@ -19,7 +19,7 @@ use Rattle.recording.specs.Bytes.{field_bytes}
 use Rattle.field.specs.declared.Settings.{Settings}
 use Rattle.loading.specs.Loads.{FilesSettings, rows_filled, links_filled, losses_filled}
 use Rattle.loading.proofs.Chunks.{Bytes, chunk, chunk_bytes, head_back, sensor_back, link_back, loss_back}
-use Rattle.loading.proofs.Cuts.{impossible, head_is, whole, rows_there, kind_is, row_is, row_of, row_lawful, sensor_zeroed, link_zeroed, loss_zeroed}
+use Rattle.loading.proofs.Cuts.{head_is, whole, rows_there, kind_is, row_is, row_of, row_lawful, sensor_zeroed, link_zeroed, loss_zeroed}
 use Rattle.loading.proofs.Parted.{part_byte, part_length, part_fits, drop_byte, drop_fits, leading_within, leading_is}
 use Rattle.loading.proofs.Sections.{Back, items_back}
 
@@ -184,7 +184,7 @@ module _ (file : List ℕ) (ok : Passed file) (fits : Bytes file) where
     number_there v = by (of v) refl
       where
         by : (o : Option Num) → of v ≡ o → elim o [ None ↦ false | Some x ↦ m.lawful x ] ≡ true → (x : Num) × (of v ≡ Some x)
-        by None e h = impossible h
+        by None e h = false_true h
         by (Some x) e h = (x, e)
 
     row_back : (i : ℕ) → i < n → Back (row_at of (row_records file)) (row_record worth) (row_records file) 0 i

@@ -1,13 +1,9 @@
 -- Items read from a section and written back are the section. Assumes nothing.
-use Rattle.std.proofs.Common.{◌≡◌, ℕ, zero, suc, ◌+◌, ◌*◌, ◌<◌, ◌≤◌, List, [], ◌∷◌, ◌++◌, length, take, drop, Some, Option, sym, refl, ap, ◌∙◌, add-zero, add-suc, suc-add, arith, length-drop, take-append-drop}
-use Rattle.std.proofs.lemmas.List.{drop-drop}
+use Rattle.std.proofs.Common.{◌≡◌, ℕ, zero, suc, ◌+◌, ◌*◌, ◌<◌, ◌≤◌, List, [], ◌∷◌, ◌++◌, length, take, drop, Some, Option, sym, ap, ◌∙◌, add-zero, add-suc, suc-add, arith, length-drop, take-append-drop}
+use Rattle.std.proofs.lemmas.List.{nil_from_length, drop-drop}
 use Rattle.filling.specs.Filled.{filled}
 use Rattle.page.specs.Pages.{joined}
 use Rattle.loading.proofs.Chunks.{chunk}
-
-empty : (section : List ℕ) → length section ≡ 0 → section ≡ []
-empty [] e = refl
-empty (b ∷ section) e = absurd (omega arith)
 
 module _ {A : Type 0} where
   -- the item at a place is there, and its record is the chunk at that place
@@ -21,7 +17,7 @@ module _ {A : Type 0} where
       → length section ≡ 12 * m → m ≤ length buffer → ((i : ℕ) → i < m → Back item written section place i)
       → joined written place (take m (filled item m buffer)) ≡ section
   unfolding filled
-  items_back zero place item written section buffer long room back = sym (empty section (omega arith))
+  items_back zero place item written section buffer long room back = sym (nil_from_length section (omega arith))
   items_back (suc m) place item written section [] long room back = absurd (omega arith)
   items_back (suc m) place item written section (y ∷ buffer) long room back =
       let first = back 0 (omega arith) in

@@ -1,5 +1,4 @@
 // The four numberings of files.
-ghost use Rattle.std.specs.Prelude.{◌≡◌};
 ghost use Rattle.loading.specs.Numberings.{Coded};
 
 use numbering::{Circular, Differentiated, Free, Linear};

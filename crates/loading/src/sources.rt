@@ -53,6 +53,7 @@ impl<'a> Source for LossesIn<'a> {
     }
 }
 
+// Rows of the number kind of a numbering, which is lent for its type alone.
 #[derive(Drop)]
 pub struct RowsIn<'n, 'a, N: Numbering> {
     pub numbering: &'n N,
@@ -75,6 +76,7 @@ impl<'n, 'a, N: Numbering> Source for RowsIn<'n, 'a, N> {
     }
 }
 
+// Acts likewise.
 #[derive(Drop)]
 pub struct ActsIn<'n, 'a, N: Numbering> {
     pub numbering: &'n N,

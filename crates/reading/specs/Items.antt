@@ -1,4 +1,4 @@
--- What each record is read as. Assumes nothing.
+-- What rows, losses and acts are read as. Assumes nothing.
 use Rattle.std.specs.Prelude.{ℕ, cond, List, Some, None, Option}
 use Rattle.records.specs.declared.Kind.TheVariants.{Play as PlayKind}
 use Rattle.checking.specs.Cases.{mark_at}

@@ -1,4 +1,4 @@
-// What each record of a file is read as.
+// What the rows, losses and acts of a file are read as.
 #![tactic(auto)]
 
 ghost use Rattle.std.specs.Prelude.{◌≡◌};

@@ -6,10 +6,11 @@ use Rattle.records.specs.declared.Kind.TheVariants.{Link, Loss}
 use Rattle.records.specs.Records.{records, byte, is_kind}
 use Rattle.search.specs.Lowest.{lowest}
 
--- how many records at the front are of a kind
+-- a record is of another kind
 abbrev pub other_kind : List ℕ → Kind → ℕ → Bool
 other_kind file kind k = not (is_kind file k kind)
 
+-- how many records at the front are of a kind
 unfoldable pub leading : List ℕ → Kind → ℕ
 leading file kind = unwrap_or (lowest (other_kind file kind) (records file)) (records file)
 

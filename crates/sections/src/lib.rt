@@ -36,6 +36,7 @@ impl Case for OtherKind<'_> {
 }
 
 // How many records at the front are of a kind.
+#[tactic(auto, unfolding(crate::specs::Parts::leading))]
 fn leading(file: &[u8], kind: Kind) -> usize
     ensures { result ≡ leading file.now kind }
 {

@@ -15,19 +15,19 @@ use Rattle.vetting.specs.declared.cases.ActCase.{ActCase}
 use Rattle.vetting.specs.declared.cases.ActCase.TheVariants.{Sensors, Limits}
 use Rattle.vetting.specs.Vetted.{holds_at}
 
-module _ {Num : Type 0} (m : Meaning Num) (s : Settings) where
-  -- 6: a damage of a sensor that is not there
-  abbrev pub damages_none : Act Num → Bool
-  damages_none (Play budget) = false
-  damages_none (Damages damage) = not (nat_lt damage.sensor s.n)
+-- 6: a damage of a sensor that is not there
+abbrev pub damages_none : {Num : Type 0} → Settings → Act Num → Bool
+damages_none s (Play budget) = false
+damages_none s (Damages damage) = not (nat_lt damage.sensor s.n)
 
+module _ {Num : Type 0} (m : Meaning Num) (s : Settings) where
   -- 9: a damage that breaks the limits of a row
   abbrev pub breaks_limits : Act Num → Bool
   breaks_limits (Play budget) = false
   breaks_limits (Damages damage) = not (clock_keeps s.hmax s.tmax s.f damage.sensor damage.timer damage.mark && m.lawful damage.held)
 
   abbrev pub act_test : ActCase → Act Num → Bool
-  act_test Sensors = damages_none
+  act_test Sensors = damages_none s
   act_test Limits = breaks_limits
 
 abbrev pub act_fault : ActCase → ℕ → FieldFault

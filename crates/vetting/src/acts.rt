@@ -10,8 +10,8 @@ use numbering::Numbering;
 use refusal::{FieldFault, RunFault};
 use search::{Case, pass};
 
-fn damages_none<N: Numbering>(numbering: &N, settings: Settings, act: Act<N::Number>) -> bool
-    ensures { result ≡ damages_none (N.Numbering.meaning numbering.now) settings act }
+fn damages_none<Number: Copy>(settings: Settings, act: Act<Number>) -> bool
+    ensures { result ≡ damages_none settings act }
 {
     match act {
         Act::Play(_) => false,
@@ -58,7 +58,7 @@ impl<'n, 'a, N: Numbering> Case for OfActs<'n, 'a, N> {
 
     fn holds(&self, place: usize) -> bool {
         match (item_at(self.acts, place), self.case) {
-            (Some(act), ActCase::Sensors) => damages_none(self.numbering, self.settings, act),
+            (Some(act), ActCase::Sensors) => damages_none(self.settings, act),
             (Some(act), ActCase::Limits) => breaks_limits(self.numbering, self.settings, act),
             (None, _) => false,
         }

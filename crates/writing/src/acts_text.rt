@@ -34,8 +34,6 @@ pub fn write_acts<N: Numbering>(
     ensures value { result ≡ write_answer (acts_vetted (N.Numbering.meaning numbering.now) settings acts.now) (act_bytes N.Number.NumberKind.worth acts.now) out.old }
     ensures out { out.new ≡ write_page (acts_vetted (N.Numbering.meaning numbering.now) settings acts.now) (act_bytes N.Number.NumberKind.worth acts.now) out.old }
 {
-    match vet_acts(numbering, settings, acts) {
-        Ok(()) => write(&ActsText { acts }, out).ok_or(RunFault::NoRoom),
-        Err(fault) => Err(fault),
-    }
+    vet_acts(numbering, settings, acts)?;
+    write(&ActsText { acts }, out).ok_or(RunFault::NoRoom)
 }

@@ -1,4 +1,4 @@
-// A field, and acts, as the bytes of a file.
+// A field, as the bytes of a file.
 ghost use Rattle.std.specs.Prelude.{◌≡◌, ◌≤◌, length, take};
 ghost use Rattle.page.specs.Pages.{Wrote, joined};
 ghost use Rattle.recording.specs.Records.{head_record, row_record};
@@ -78,18 +78,13 @@ pub fn write_field<N: Filed>(
     ensures value { result ≡ write_answer (vetted (N.Numbering.meaning numbering.now) settings rows.now links.now losses.now) (field_bytes N.Number.NumberKind.worth (N.Filed.coded numbering.now) (N.Filed.top numbering.now) settings rows.now links.now losses.now) out.old }
     ensures out { out.new ≡ write_page (vetted (N.Numbering.meaning numbering.now) settings rows.now links.now losses.now) (field_bytes N.Number.NumberKind.worth (N.Filed.coded numbering.now) (N.Filed.top numbering.now) settings rows.now links.now losses.now) out.old }
 {
-    match vet(numbering, settings, rows, links, losses) {
-        Ok(()) => write(
-            &FieldText {
-                numbering,
-                settings,
-                rows,
-                links,
-                losses,
-            },
-            out,
-        )
-        .ok_or(RunFault::NoRoom),
-        Err(fault) => Err(fault),
-    }
+    vet(numbering, settings, rows, links, losses)?;
+    let text = FieldText {
+        numbering,
+        settings,
+        rows,
+        links,
+        losses,
+    };
+    write(&text, out).ok_or(RunFault::NoRoom)
 }
