@@ -27,19 +27,32 @@ the sensor accepts or refuses it, and the number that the sensor holds then.
 Example: bound circular 7 6 1
 ";
 
-fn answer(rt: &HostRuntime, words: &[String]) -> io::Result<()> {
+// Why the program fails.
+#[derive(Debug, Drop)]
+enum Failure {
+    Told,
+    Io(io::Error),
+}
+
+impl From<io::Error> for Failure {
+    fn from(error: io::Error) -> Failure {
+        Failure::Io(error)
+    }
+}
+
+fn answer(rt: &HostRuntime, words: &[String]) -> Result<(), Failure> {
     match reply(rt.alloc(), words) {
-        Ok(text) => rt.print(text),
+        Ok(text) => Ok(rt.print(text)?),
         Err(complaint) => {
             eprintln!(rt; "bound: {complaint} (bound --help says how to call it)")?;
-            Err(io::Error::from(io::ErrorKind::InvalidInput))
+            Err(Failure::Told)
         }
     }
 }
 
-fn run(rt: &HostRuntime, words: &[String]) -> io::Result<()> {
+fn run(rt: &HostRuntime, words: &[String]) -> Result<(), Failure> {
     match words.first() {
-        Some(word) if word.as_str() == "--help" => rt.print(USAGE),
+        Some(word) if word.as_str() == "--help" => Ok(rt.print(USAGE)?),
         _ => answer(rt, words),
     }
 }
@@ -48,9 +61,8 @@ fn main(rt: HostRuntime) -> io::Result<ExitCode> {
     let words: Vec<String> = env::args(&rt)?.skip(1).collect(rt.alloc())?;
     match run(&rt, words.as_slice()) {
         Ok(()) => Ok(ExitCode::SUCCESS),
-        // a complaint was told already
-        Err(error) if error.kind() == io::ErrorKind::InvalidInput => Ok(ExitCode::FAILURE),
-        Err(error) => Err(error),
+        Err(Failure::Told) => Ok(ExitCode::FAILURE),
+        Err(Failure::Io(error)) => Err(error),
     }
 }
 

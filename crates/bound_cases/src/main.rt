@@ -3,16 +3,14 @@
 #![tactic(auto)]
 
 use inquiry::{Complaint, reply, report};
-use std::alloc::Global;
+use std::alloc::{AllocError, Global};
 use std::io;
 use windowed::Windowed;
 
-fn words_of(heap: Global, line: &str) -> io::Result<Vec<String>> {
-    let mut words = Vec::new(heap);
-    for word in line.split_whitespace() {
-        words.push(String::from_str(heap, word)?)?;
-    }
-    Ok(words)
+fn words_of(heap: Global, line: &str) -> Result<Vec<String>, AllocError> {
+    line.split_whitespace()
+        .map(|word| String::from_str(heap, word))
+        .try_collect(heap)
 }
 
 fn windowed_in(word: &str) -> Option<Windowed> {
@@ -22,10 +20,8 @@ fn windowed_in(word: &str) -> Option<Windowed> {
 fn answer(heap: Global, words: &[String]) -> Result<String, Complaint> {
     match words {
         [name, window, held, base] if name.as_str() == "windowed" => {
-            match windowed_in(window.as_str()) {
-                Some(numbering) => report(heap, &numbering, held.as_str(), base.as_str()),
-                None => Err(Complaint::Words),
-            }
+            let numbering = windowed_in(window.as_str()).ok_or(Complaint::Words)?;
+            report(heap, &numbering, held.as_str(), base.as_str())
         }
         _ => reply(heap, words),
     }

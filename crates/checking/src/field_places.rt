@@ -1,50 +1,62 @@
 // The cases of a field, at a place.
 ghost use Rattle.std.specs.Prelude.{◌≡◌, ◌+◌};
-ghost use Rattle.checking.specs.Codes.{code_keeps, lawful_value};
-ghost use Rattle.checking.specs.Cases.{misplaced, out_of_order, bad_setting, no_sensor, link_at, links, linked, bad_link, too_many, mark_at, bad_row, no_link};
+ghost use Rattle.filed.specs.Codes.{code_keeps, lawful_value};
+ghost use Rattle.checking.specs.Cases.{misplaced, out_of_order, SettingsIn, bad_setting, no_sensor, link_at, linked, bad_link, outnumbers, too_many, mark_at, clock_at, number_at, bad_row, no_link};
 
-use field::{Link, Settings, clock_keeps};
-use records::{Kind, byte, four_bytes, is_kind, record_count, two_bytes};
-use search::{Case, lowest};
+use field::{Ends, Limits, Link, Settings};
+use filed::FileNumbering;
+use records::{Kind, Record, record_count};
+use refusal::FieldFault;
+use search::lowest;
 
-fn misplaced(file: &[u8], k: usize, before: usize) -> bool
-    requires { k ≡ before + 1 }
-    ensures { result ≡ misplaced file.now k }
+fn misplaced(here: Record, before: usize) -> bool
+    requires { here.place ≡ before + 1 }
+    ensures { result ≡ misplaced here.entry.file.now here.entry.place }
 {
-    let first = k == usize::from(byte(file, 0, 2)) + 1;
-    let after_link = first || is_kind(file, before, Kind::Link);
-    let after_loss = after_link || is_kind(file, before, Kind::Loss);
-    is_kind(file, k, Kind::Field)
-        || is_kind(file, k, Kind::Link) && !after_link
-        || is_kind(file, k, Kind::Loss) && !after_loss
+    let first = here.place == usize::from(here.at(0).byte(2)) + 1;
+    let after_link = first || here.at(before).is(Kind::Link);
+    let after_loss = after_link || here.at(before).is(Kind::Loss);
+    here.is(Kind::Field) || here.is(Kind::Link) && !after_link || here.is(Kind::Loss) && !after_loss
 }
 
-pub fn out_of_order(file: &[u8], k: usize) -> bool
-    ensures { result ≡ out_of_order file.now k }
+pub fn out_of_order(here: Record) -> bool
+    ensures { result ≡ out_of_order here.entry.file.now here.entry.place }
 {
-    let n = usize::from(byte(file, 0, 2));
-    if k >= record_count(file) {
-        return k <= n;
+    let place = here.place;
+    let n = usize::from(here.at(0).byte(2));
+    if place >= record_count(here.file) {
+        return place <= n;
     }
-    if k == 0 {
-        return !is_kind(file, k, Kind::Field);
+    if place == 0 {
+        return !here.is(Kind::Field);
     }
-    if k <= n {
-        return !(is_kind(file, k, Kind::Sensor) && usize::from(byte(file, k, 1)) == k - 1);
+    if place <= n {
+        return !(here.is(Kind::Sensor) && usize::from(here.byte(1)) == place - 1);
     }
-    misplaced(file, k, k - 1)
+    misplaced(here, place - 1)
+}
+
+// The settings that a file's first record writes.
+pub fn settings_in(file: &[u8]) -> Result<Settings, FieldFault>
+    ensures { SettingsIn file.now result }
+{
+    let head = Record { file, place: 0 };
+    Settings::new(
+        head.byte(2),
+        head.byte(3),
+        head.byte(4),
+        head.two_bytes(6),
+        head.four_bytes(8),
+    )
 }
 
 fn code_keeps(code: u8, smax: u8) -> bool
     ensures { result ≡ code_keeps code smax }
 {
-    if code < 2 {
-        smax == 0
-    } else {
-        code < 4 && smax >= 2
-    }
+    FileNumbering::new(code, smax).is_some()
 }
 
+// By the code's byte, which may be none of the four: each case is judged for itself.
 fn lawful_value(code: u8, smax: u8, value: u32) -> bool
     ensures { result ≡ lawful_value code smax value }
 {
@@ -58,118 +70,98 @@ fn lawful_value(code: u8, smax: u8, value: u32) -> bool
 pub fn bad_setting(file: &[u8]) -> bool
     ensures { result ≡ bad_setting file.now }
 {
-    let made = Settings::new(
-        byte(file, 0, 2),
-        byte(file, 0, 3),
-        byte(file, 0, 4),
-        two_bytes(file, 0, 6),
-        0,
-    );
-    !(made.is_ok() && code_keeps(byte(file, 0, 1), byte(file, 0, 5)))
+    let head = Record { file, place: 0 };
+    settings_in(file).is_err() || !code_keeps(head.byte(1), head.byte(5))
 }
 
-pub fn link_at(file: &[u8], k: usize) -> Link
-    ensures { result ≡ link_at file.now k }
+pub fn link_at(here: Record) -> Link
+    ensures { result ≡ link_at here.entry.file.now here.entry.place }
 {
     Link {
-        from: byte(file, k, 1),
-        to: byte(file, k, 2),
-        label: byte(file, k, 3),
+        from: here.byte(1),
+        to: here.byte(2),
+        label: here.byte(3),
     }
 }
 
-pub fn no_sensor(file: &[u8], k: usize) -> bool
-    ensures { result ≡ no_sensor file.now k }
+pub fn no_sensor(here: Record) -> bool
+    ensures { result ≡ no_sensor here.entry.file.now here.entry.place }
 {
-    let n = byte(file, 0, 2);
-    let pair = is_kind(file, k, Kind::Link) || is_kind(file, k, Kind::Loss);
-    pair && !link_at(file, k).is_within(n)
-        || is_kind(file, k, Kind::Sensor) && !(byte(file, k, 1) < n)
+    let n = here.at(0).byte(2);
+    let pair = here.is(Kind::Link) || here.is(Kind::Loss);
+    pair && !Ends::from(link_at(here)).are_within(n) || here.is(Kind::Sensor) && !(here.byte(1) < n)
 }
 
-// A link from one sensor to the other, among the first records.
-#[derive(Drop)]
-struct Joining<'a> {
-    file: &'a [u8],
-    count: usize,
-    from: u8,
-    to: u8,
-}
-
-impl Case for Joining<'_> {
-    type Fault = ();
-
-    ghost count = { λ s. s.count };
-
-    ghost at = { λ s. links s.file.now s.from s.to };
-
-    ghost told = { λ _ _. tt };
-
-    fn places(&self) -> usize {
-        self.count
-    }
-
-    fn holds(&self, place: usize) -> bool {
-        is_kind(self.file, place, Kind::Link) && link_at(self.file, place).joins(self.from, self.to)
-    }
-
-    fn fault(&self, _place: usize) {}
-}
-
-fn linked(file: &[u8], count: usize, from: u8, to: u8) -> bool
-    ensures { result ≡ linked file.now count from to }
+// Does one of the first records link these ends?
+fn linked(file: &[u8], count: usize, ends: Ends) -> bool
+    ensures { result ≡ linked file.now count ends.from ends.to }
 {
-    lowest(&Joining {
-        file,
-        count,
-        from,
-        to,
+    lowest(count, |place| {
+        let here = Record { file, place };
+        here.is(Kind::Link) && link_at(here).joins(ends)
     })
     .is_some()
 }
 
-pub fn bad_link(file: &[u8], k: usize) -> bool
-    ensures { result ≡ bad_link file.now k }
+pub fn bad_link(here: Record) -> bool
+    ensures { result ≡ bad_link here.entry.file.now here.entry.place }
 {
-    let link = link_at(file, k);
-    is_kind(file, k, Kind::Link) && (!link.keeps() || linked(file, k, link.from, link.to))
+    let link = link_at(here);
+    here.is(Kind::Link) && (!link.keeps() || linked(here.file, here.place, Ends::from(link)))
 }
 
-pub fn too_many(file: &[u8], k: usize) -> bool
-    ensures { result ≡ too_many file.now k }
+// Is this record of a kind that stood so many records before too?
+fn outnumbers(here: Record, kind: Kind, most: usize) -> bool
+    ensures { result ≡ outnumbers here.entry.file.now here.entry.place kind most }
 {
-    is_kind(file, k, Kind::Link) && k >= 1024 && is_kind(file, k - 1024, Kind::Link)
-        || is_kind(file, k, Kind::Loss) && k >= 256 && is_kind(file, k - 256, Kind::Loss)
+    let place = here.place;
+    here.is(kind) && place >= most && here.at(place - most).is(kind)
 }
 
-pub fn mark_at(file: &[u8], k: usize) -> Option<u8>
-    ensures { result ≡ mark_at file.now k }
+pub fn too_many(here: Record) -> bool
+    ensures { result ≡ too_many here.entry.file.now here.entry.place }
 {
-    match byte(file, k, 2) {
+    outnumbers(here, Kind::Link, 1024) || outnumbers(here, Kind::Loss, 256)
+}
+
+pub fn mark_at(here: Record) -> Option<u8>
+    ensures { result ≡ mark_at here.entry.file.now here.entry.place }
+{
+    match here.byte(2) {
         255 => None,
         hop => Some(hop),
     }
 }
 
-pub fn bad_row(file: &[u8], k: usize) -> bool
-    ensures { result ≡ bad_row file.now k }
+fn clock_keeps(here: Record) -> bool
+    ensures { result ≡ clock_at here.entry.file.now here.entry.place }
 {
-    let sensor = usize::from(byte(file, k, 1));
-    let clock = clock_keeps(
-        byte(file, 0, 3),
-        byte(file, 0, 4),
-        two_bytes(file, 0, 6),
-        sensor,
-        two_bytes(file, k, 4),
-        mark_at(file, k),
-    );
-    is_kind(file, k, Kind::Sensor)
-        && !(clock && lawful_value(byte(file, 0, 1), byte(file, 0, 5), four_bytes(file, k, 8)))
+    let head = here.at(0);
+    let limits = Limits {
+        hmax: head.byte(3),
+        tmax: head.byte(4),
+        f: head.two_bytes(6),
+    };
+    let sensor = usize::from(here.byte(1));
+    limits.keep(sensor, here.two_bytes(4), mark_at(here))
 }
 
-pub fn no_link(file: &[u8], k: usize) -> bool
-    ensures { result ≡ no_link file.now k }
+fn number_keeps(here: Record) -> bool
+    ensures { result ≡ number_at here.entry.file.now here.entry.place }
 {
-    is_kind(file, k, Kind::Loss)
-        && !linked(file, record_count(file), byte(file, k, 1), byte(file, k, 2))
+    let head = here.at(0);
+    lawful_value(head.byte(1), head.byte(5), here.four_bytes(8))
+}
+
+pub fn bad_row(here: Record) -> bool
+    ensures { result ≡ bad_row here.entry.file.now here.entry.place }
+{
+    here.is(Kind::Sensor) && !(clock_keeps(here) && number_keeps(here))
+}
+
+pub fn no_link(here: Record) -> bool
+    ensures { result ≡ no_link here.entry.file.now here.entry.place }
+{
+    let file = here.file;
+    here.is(Kind::Loss) && !linked(file, record_count(file), Ends::from(link_at(here)))
 }

@@ -2,7 +2,7 @@
 ghost use Rattle.std.specs.Prelude.{◌≡◌};
 ghost use Rattle.checking.specs.Cases.{bad_length, unknown_kind, zeros, zero_tail, sensor_zeros, link_zeros, loss_zeros, play_zeros, not_zero};
 
-use records::{Kind, byte, is_kind};
+use records::{Kind, Record};
 
 pub fn bad_length(file: &[u8]) -> bool
     ensures { result ≡ bad_length file.now }
@@ -10,61 +10,56 @@ pub fn bad_length(file: &[u8]) -> bool
     file.len() > 48000 || file.len() % 12 != 0
 }
 
-pub fn unknown_kind(file: &[u8], k: usize) -> bool
-    ensures { result ≡ unknown_kind file.now k }
+pub fn unknown_kind(here: Record) -> bool
+    ensures { result ≡ unknown_kind here.entry.file.now here.entry.place }
 {
-    !is_kind(file, k, Kind::Field)
-        && !is_kind(file, k, Kind::Sensor)
-        && !is_kind(file, k, Kind::Link)
-        && !is_kind(file, k, Kind::Loss)
-        && !is_kind(file, k, Kind::Play)
+    here.kind().is_err()
 }
 
-fn zeros(file: &[u8], k: usize, at: usize) -> bool
-    ensures { result ≡ zeros file.now k at }
+fn zeros(here: Record, at: usize) -> bool
+    ensures { result ≡ zeros here.entry.file.now here.entry.place at }
 {
-    byte(file, k, at) == 0
+    here.byte(at) == 0
 }
 
-fn zero_tail(file: &[u8], k: usize) -> bool
-    ensures { result ≡ zero_tail file.now k }
+fn zero_tail(here: Record) -> bool
+    ensures { result ≡ zero_tail here.entry.file.now here.entry.place }
 {
-    zeros(file, k, 8) && zeros(file, k, 9) && zeros(file, k, 10) && zeros(file, k, 11)
+    zeros(here, 8) && zeros(here, 9) && zeros(here, 10) && zeros(here, 11)
 }
 
-fn sensor_zeros(file: &[u8], k: usize) -> bool
-    ensures { result ≡ sensor_zeros file.now k }
+fn sensor_zeros(here: Record) -> bool
+    ensures { result ≡ sensor_zeros here.entry.file.now here.entry.place }
 {
-    zeros(file, k, 3) && zeros(file, k, 6) && zeros(file, k, 7)
+    zeros(here, 3) && zeros(here, 6) && zeros(here, 7)
 }
 
-fn link_zeros(file: &[u8], k: usize) -> bool
-    ensures { result ≡ link_zeros file.now k }
+fn link_zeros(here: Record) -> bool
+    ensures { result ≡ link_zeros here.entry.file.now here.entry.place }
 {
-    zeros(file, k, 4)
-        && zeros(file, k, 5)
-        && zeros(file, k, 6)
-        && zeros(file, k, 7)
-        && zero_tail(file, k)
+    zeros(here, 4) && zeros(here, 5) && zeros(here, 6) && zeros(here, 7) && zero_tail(here)
 }
 
-fn loss_zeros(file: &[u8], k: usize) -> bool
-    ensures { result ≡ loss_zeros file.now k }
+fn loss_zeros(here: Record) -> bool
+    ensures { result ≡ loss_zeros here.entry.file.now here.entry.place }
 {
-    zeros(file, k, 3) && zero_tail(file, k)
+    zeros(here, 3) && zero_tail(here)
 }
 
-fn play_zeros(file: &[u8], k: usize) -> bool
-    ensures { result ≡ play_zeros file.now k }
+fn play_zeros(here: Record) -> bool
+    ensures { result ≡ play_zeros here.entry.file.now here.entry.place }
 {
-    zeros(file, k, 1) && zeros(file, k, 2) && zeros(file, k, 3) && zero_tail(file, k)
+    zeros(here, 1) && zeros(here, 2) && zeros(here, 3) && zero_tail(here)
 }
 
-pub fn not_zero(file: &[u8], k: usize) -> bool
-    ensures { result ≡ not_zero file.now k }
+pub fn not_zero(here: Record) -> bool
+    ensures { result ≡ not_zero here.entry.file.now here.entry.place }
 {
-    is_kind(file, k, Kind::Sensor) && !sensor_zeros(file, k)
-        || is_kind(file, k, Kind::Link) && !link_zeros(file, k)
-        || is_kind(file, k, Kind::Loss) && !loss_zeros(file, k)
-        || is_kind(file, k, Kind::Play) && !play_zeros(file, k)
+    match here.kind() {
+        Ok(Kind::Sensor) => !sensor_zeros(here),
+        Ok(Kind::Link) => !link_zeros(here),
+        Ok(Kind::Loss) => !loss_zeros(here),
+        Ok(Kind::Play) => !play_zeros(here),
+        Ok(Kind::Field) | Err(_) => false,
+    }
 }

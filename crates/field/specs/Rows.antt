@@ -1,8 +1,10 @@
 -- The limits of a row and of a link. Assumes nothing.
 use Rattle.std.specs.Prelude.{ℕ, Bool, true, false, cond, not, ◌&&◌, Some, None, Option, ◌==◌, nat_le, nat_lt}
 use Rattle.numbering.specs.Meaning.{Meaning}
+use Rattle.field.specs.declared.limits.Limits.{Limits}
 use Rattle.field.specs.declared.limits.Stage.{Stage}
 use Rattle.field.specs.declared.limits.Stage.TheVariants.{Beginning, Between, Within}
+use Rattle.field.specs.declared.links.Ends.{Ends}
 use Rattle.field.specs.declared.parts.Link.{Link}
 use Rattle.field.specs.declared.parts.Message.{Message}
 use Rattle.field.specs.declared.parts.Row.{Row}
@@ -22,6 +24,10 @@ mark_keeps hmax sensor (Some hop) = not (sensor == 0) && nat_le hop hmax
 abbrev pub clock_keeps : ℕ → ℕ → ℕ → ℕ → ℕ → Option ℕ → Bool
 clock_keeps hmax tmax f sensor timer mark = within 1 (longest tmax f sensor) timer && mark_keeps hmax sensor mark
 
+-- the limits that settings set
+abbrev pub limits_of : Settings → Limits
+limits_of s = record { hmax = s.hmax; tmax = s.tmax; f = s.f }
+
 module _ {Num : Type 0} (m : Meaning Num) (s : Settings) where
   abbrev pub message_keeps : Message Num → Bool
   message_keeps message = nat_le message.hop s.hmax && m.lawful message.number
@@ -37,6 +43,9 @@ module _ {Num : Type 0} (m : Meaning Num) (s : Settings) where
   -- the limits of a sensor's row
   abbrev pub row_keeps : Stage → ℕ → Row Num → Bool
   row_keeps stage sensor row = clock_keeps s.hmax s.tmax s.f sensor row.timer row.mark && (m.lawful row.held && outgoing_keeps stage row.outgoing)
+
+abbrev pub ends_of : ℕ → ℕ → Ends
+ends_of from to = record { from = from; to = to }
 
 -- both ends are sensors of a field of n
 abbrev pub ends_within : ℕ → ℕ → ℕ → Bool

@@ -2,10 +2,12 @@
 #![tactic(auto)]
 
 mod limits;
+mod links;
 mod making;
 mod parts;
 mod settings;
 
-pub use limits::{Stage, clock_keeps, row_keeps};
+pub use limits::{Limits, Rules, Stage};
+pub use links::Ends;
 pub use parts::{Act, Damage, Link, Loss, Message, Row};
 pub use settings::Settings;

@@ -1,8 +1,8 @@
-// The limits of rows and links.
+// The limits of rows.
 ghost use Rattle.std.specs.Prelude.{◌≡◌};
-ghost use Rattle.field.specs.Rows.{clock_keeps, mark_keeps, outgoing_keeps, row_keeps, ends_within, link_keeps, joins};
+ghost use Rattle.field.specs.Rows.{clock_keeps, mark_keeps, outgoing_keeps, row_keeps, limits_of};
 
-use crate::parts::{Link, Message, Row};
+use crate::parts::{Message, Row};
 use crate::settings::Settings;
 use numbering::Numbering;
 
@@ -14,80 +14,75 @@ pub enum Stage {
     Within,
 }
 
-// Do a sensor's timer and mark keep their limits, in a field with these settings?
-pub fn clock_keeps(hmax: u8, tmax: u8, f: u16, sensor: usize, timer: u16, mark: Option<u8>) -> bool
-    ensures { result ≡ clock_keeps hmax tmax f sensor timer mark }
-{
-    let longest = if sensor == 0 { f } else { u16::from(tmax) };
-    1 <= timer && timer <= longest && mark_keeps(hmax, sensor, mark)
+// What bounds the timers and marks of a field, and the hops of its messages.
+#[derive(Clone, Copy)]
+pub struct Limits {
+    pub hmax: u8,
+    pub tmax: u8,
+    pub f: u16,
 }
 
-fn mark_keeps(hmax: u8, sensor: usize, mark: Option<u8>) -> bool
-    ensures { result ≡ mark_keeps hmax sensor mark }
-{
-    match mark {
-        Some(hop) => sensor != 0 && hop <= hmax,
-        None => true,
-    }
-}
-
-fn outgoing_keeps<N: Numbering>(
-    numbering: &N,
-    settings: Settings,
-    stage: Stage,
-    outgoing: Option<Message<N::Number>>,
-) -> bool
-    ensures { result ≡ outgoing_keeps (N.Numbering.meaning numbering.now) settings stage outgoing }
-{
-    match (stage, outgoing) {
-        (Stage::Beginning, _) => true,
-        (_, None) => true,
-        (Stage::Between, Some(_)) => false,
-        (Stage::Within, Some(message)) => message.hop <= settings.hmax
-            && numbering.lawful(message.number),
-    }
-}
-
-// Does a sensor's row keep its limits?
-pub fn row_keeps<N: Numbering>(
-    numbering: &N,
-    settings: Settings,
-    stage: Stage,
-    sensor: usize,
-    row: Row<N::Number>,
-) -> bool
-    ensures { result ≡ row_keeps (N.Numbering.meaning numbering.now) settings stage sensor row }
-{
-    clock_keeps(
-        settings.hmax,
-        settings.tmax,
-        settings.f,
-        sensor,
-        row.timer,
-        row.mark,
-    ) && numbering.lawful(row.held)
-        && outgoing_keeps(numbering, settings, stage, row.outgoing)
-}
-
-impl Link {
-    // Are both ends sensors of a field of n?
-    pub fn is_within(self, n: u8) -> bool
-        ensures { result ≡ ends_within n self.from self.to }
+impl Limits {
+    // Do a sensor's timer and mark keep them?
+    pub fn keep(self, sensor: usize, timer: u16, mark: Option<u8>) -> bool
+        ensures { result ≡ clock_keeps self.hmax self.tmax self.f sensor timer mark }
     {
-        self.from < n && self.to < n
+        let longest = if sensor == 0 {
+            self.f
+        } else {
+            u16::from(self.tmax)
+        };
+        1 <= timer && timer <= longest && self.keep_mark(sensor, mark)
     }
 
-    // Two ends, none of them the base's ear, and a label up to 100?
-    pub fn keeps(self) -> bool
-        ensures { result ≡ link_keeps self }
+    fn keep_mark(self, sensor: usize, mark: Option<u8>) -> bool
+        ensures { result ≡ mark_keeps self.hmax sensor mark }
     {
-        self.from != self.to && self.to != 0 && self.label <= 100
+        match mark {
+            Some(hop) => sensor != 0 && hop <= self.hmax,
+            None => true,
+        }
+    }
+}
+
+impl Settings {
+    pub fn limits(self) -> Limits
+        ensures { result ≡ limits_of self }
+    {
+        Limits {
+            hmax: self.hmax,
+            tmax: self.tmax,
+            f: self.f,
+        }
+    }
+}
+
+// What a field is played by: a numbering, and settings.
+#[derive(Drop)]
+pub struct Rules<'a, N: Numbering> {
+    pub numbering: &'a N,
+    pub settings: Settings,
+}
+
+impl<N: Numbering> Rules<'_, N> {
+    fn outgoing_keeps(&self, stage: Stage, outgoing: Option<Message<N::Number>>) -> bool
+        ensures { result ≡ outgoing_keeps (N.Numbering.meaning self.now.numbering.now) self.now.settings stage outgoing }
+    {
+        match (stage, outgoing) {
+            (Stage::Beginning, _) => true,
+            (_, None) => true,
+            (Stage::Between, Some(_)) => false,
+            (Stage::Within, Some(message)) => message.hop <= self.settings.hmax
+                && self.numbering.lawful(message.number),
+        }
     }
 
-    // Does it go from one sensor to the other, whatever its label?
-    pub fn joins(self, from: u8, to: u8) -> bool
-        ensures { result ≡ joins self from to }
+    // Does a sensor's row keep its limits?
+    pub fn row_keeps(&self, stage: Stage, sensor: usize, row: Row<N::Number>) -> bool
+        ensures { result ≡ row_keeps (N.Numbering.meaning self.now.numbering.now) self.now.settings stage sensor row }
     {
-        self.from == from && self.to == to
+        self.settings.limits().keep(sensor, row.timer, row.mark)
+            && self.numbering.lawful(row.held)
+            && self.outgoing_keeps(stage, row.outgoing)
     }
 }

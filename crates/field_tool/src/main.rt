@@ -1,13 +1,10 @@
 // The program `field_tool`: a field file as a listing, for an author before a sitting.
 #![tactic(auto)]
 
-mod causes;
-
-use causes::cause;
 use checking::check_file;
 use listing::Listing;
-use page::Text;
-use refusal::FieldFault;
+use page::{size, write};
+use refusal::{FieldFault, Told};
 use std::io::Read;
 use std::process::ExitCode;
 use std::{env, fs, io};
@@ -42,20 +39,17 @@ fn contents(rt: &HostRuntime, name: &str) -> io::Result<Vec<u8>> {
 }
 
 fn refuse(rt: &HostRuntime, fault: FieldFault) -> io::Result<ExitCode> {
-    let told = fault.told();
-    let number = told.number;
-    let place = told.place;
-    let why = cause(fault);
+    let Told { number, place, .. } = fault.told();
     println!(rt; "refusal {number} {place}")?;
-    eprintln!(rt; "field_tool: record {place}: {why}")?;
+    eprintln!(rt; "field_tool: record {place}: {fault}")?;
     Ok(ExitCode::FAILURE)
 }
 
 fn list(rt: &HostRuntime, file: &[u8]) -> io::Result<ExitCode> {
     let listing = Listing { file };
-    let mut page = vec![in rt.alloc(); 0u8; listing.put(&mut [], 0)]?;
-    listing.put(page.as_mut_slice(), 0);
-    rt.write_all(page.as_slice())?;
+    let mut page = vec![in rt.alloc(); 0u8; size(&listing)]?;
+    write(&listing, &mut page);
+    rt.write_all(&page)?;
     Ok(ExitCode::SUCCESS)
 }
 
@@ -64,8 +58,8 @@ fn show(rt: &HostRuntime, name: &str) -> io::Result<ExitCode> {
         eprintln!(rt; "field_tool: {name} cannot be read")?;
         return Ok(ExitCode::FAILURE);
     };
-    match check_file(file.as_slice()) {
-        Ok(()) => list(rt, file.as_slice()),
+    match check_file(&file) {
+        Ok(()) => list(rt, &file),
         Err(fault) => refuse(rt, fault),
     }
 }
@@ -77,7 +71,7 @@ fn main(rt: HostRuntime) -> io::Result<ExitCode> {
             rt.print(USAGE)?;
             Ok(ExitCode::SUCCESS)
         }
-        [word, name] if word.as_str() == "show" => show(&rt, name.as_str()),
+        [word, name] if word.as_str() == "show" => show(&rt, name),
         _ => {
             eprintln!(rt; "field_tool: it is called as field_tool show FILE, or with --help")?;
             Ok(ExitCode::FAILURE)

@@ -2,16 +2,15 @@
 #![tactic(auto)]
 
 use checking::check_file;
+use refusal::Told;
 use std::{fs, io};
 
 fn judge(rt: &HostRuntime, name: &str) -> io::Result<()> {
     let file = fs::read(rt, name)?;
-    match check_file(file.as_slice()) {
+    match check_file(&file) {
         Ok(()) => println!(rt; "{name} passes"),
         Err(fault) => {
-            let told = fault.told();
-            let number = told.number;
-            let place = told.place;
+            let Told { number, place, .. } = fault.told();
             println!(rt; "{name} refusal {number} {place}")
         }
     }
@@ -20,7 +19,7 @@ fn judge(rt: &HostRuntime, name: &str) -> io::Result<()> {
 fn main(rt: HostRuntime) -> io::Result<()> {
     for name in rt.lines(rt.alloc()) {
         let name = name?;
-        judge(&rt, name.as_str())?;
+        judge(&rt, &name)?;
     }
     Ok(())
 }

@@ -1,6 +1,5 @@
 -- One flood more, and no flood more. Assumes nothing.
-use Rattle.std.proofs.Common.{◌≡◌, ℕ, zero, suc, ◌+◌, ◌-◌, ◌<◌, ◌≤◌, List, [], ◌∷◌, ◌++◌, Some, None, sym, refl, ap, ◌∙◌, append_assoc, append-nil, arith}
-use native.Mathlib.Nat.{sub-zero}
+use Rattle.std.proofs.Common.{◌≡◌, ℕ, zero, suc, ◌+◌, ◌-◌, ◌<◌, List, [], ◌∷◌, ◌++◌, Some, None, sym, refl, ap, ◌∙◌, append_assoc, append-nil, arith}
 use Rattle.numbering.specs.Meaning.{Meaning}
 use Rattle.hearing.specs.declared.Heard.{Heard}
 use Rattle.hearing.specs.Hearing.{heard, hearing}
@@ -18,17 +17,9 @@ pub record SoFar {Num : Type 0} (m : Meaning Num) (whole : List (Heard Num)) (mo
   pub adds : lines ++ hearing m (most - done) held base ≡ whole
 
 module _ {Num : Type 0} {m : Meaning Num} where
-  pub none_yet : (most : ℕ) (lines : List (Heard Num)) (held base : Num) → lines ≡ [] → SoFar m (hearing m most held base) most 0 lines held base
-  none_yet most lines held base e = record { adds = rw (e, sub-zero) }
-
   module _ {whole lines : List (Heard Num)} {most done : ℕ} {held base : Num} (old : SoFar m whole most done lines held base) where
     pub none_follows : m.next base ≡ None → lines ≡ whole
     none_follows e = sym (append-nil lines) ∙ ap (λ (more : List (Heard Num)). lines ++ more) (sym (hearing_none m (most - done) held base e)) ∙ old.adds
-
-    pub all_heard : most ≤ done → lines ≡ whole
-    all_heard h =
-        let none : 0 ≡ most - done = omega arith in
-        sym (append-nil lines) ∙ ap (λ (k : ℕ). lines ++ hearing m k held base) none ∙ old.adds
 
     pub one_more : (number : Num) → done < most → m.next base ≡ Some number → SoFar m whole most (done + 1) (lines ++ (heard m held number ∷ [])) (heard m held number).held number
     one_more number h e =

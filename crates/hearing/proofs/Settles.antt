@@ -1,5 +1,7 @@
 -- A sensor that hears every flood settles. Assumes nothing.
-use Rattle.std.proofs.Common.{◌≡◌, ℕ, zero, suc, ◌+◌, ◌-◌, ◌≤◌, Bool, true, false, ◌⊎◌, List, [], is_some, Some, None, Option, sym, refl, ap, ◌∙◌, subst, inl, inr, ⊎_elim, suc-add, zero-add, arith}
+use Rattle.std.proofs.Common.{◌≡◌, ℕ, zero, suc, ◌+◌, ◌-◌, ◌≤◌, true, ◌⊎◌, List, [], is_some, Some, None, Option, sym, refl, ap, ◌∙◌, subst, inl, inr, ⊎_elim, suc-add, zero-add, arith}
+use Rattle.std.proofs.lemmas.Grind.{common_steps}
+use Rattle.std.proofs.lemmas.Option.{none-some}
 use Rattle.std.specs.List.{slice_get}
 use Rattle.numbering.specs.Meaning.{Meaning, Lawful, KeepsLawful, follow, after, Settles}
 use Rattle.hearing.specs.declared.Heard.{Heard}
@@ -9,10 +11,7 @@ use Rattle.hearing.proofs.Hears.{hearing_none, hearing_more}
 
 -- nothing stands in an empty list
 none_there : {X : Type 0} {P : Type 0} (xs : List X) (k : ℕ) (x : X) → xs ≡ [] → slice_get xs k ≡ Some x → P
-none_there {X} xs k x e f =
-    let none : slice_get {X = X} [] k ≡ Some x = subst (λ (ys : List X). slice_get ys k ≡ Some x) e f in
-    let z : ◌≡◌ {A = ℕ} 0 1 = cc in
-    absurd (omega arith)
+none_there xs k x e f = absurd (none-some x (rw e at f))
 
 module _ {Num : Type 0} (m : Meaning Num) where
   -- the numbers after what follows c are those after c, one later
@@ -59,18 +58,10 @@ module _ {Num : Type 0} (m : Meaning Num) where
 
   -- what is heard is held, or nothing changes
   turns : (held s : Num) → ((heard m held s).held ≡ s) ⊎ ((heard m held s).held ≡ held)
-  turns held s = by (m.fresh s held) refl
-    where
-      by : (b : Bool) → m.fresh s held ≡ b → ((heard m held s).held ≡ s) ⊎ ((heard m held s).held ≡ held)
-      by true e = inl (rw e)
-      by false e = inr (rw e)
+  turns held s = grind (arith, common_steps)
 
   heard_number : (held s : Num) → (heard m held s).number ≡ s
-  heard_number held s = by (m.fresh s held) refl
-    where
-      by : (b : Bool) → m.fresh s held ≡ b → (heard m held s).number ≡ s
-      by true e = rw e
-      by false e = rw e
+  heard_number held s = grind (arith, common_steps)
 
 module _ {Num : Type 0} (m : Meaning Num) (keeps : KeepsLawful m) (G : ℕ) (C : Num → Num → ℕ) (settles : Settles m G C) where
   next_fresh : (c s : Num) → Lawful m c → m.next c ≡ Some s → m.fresh s c ≡ true

@@ -1,2 +1,3 @@
 pub mod Forecasts
 pub mod Hearing
+pub mod Written

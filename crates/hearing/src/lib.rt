@@ -1,19 +1,32 @@
 // What a sensor makes of the floods that it hears, one after another.
 #![tactic(auto)]
 
-ghost use Rattle.std.specs.Prelude.{◌≡◌, IfOk};
+ghost use Rattle.std.specs.Prelude.{◌≡◌, Some, IfOk};
 ghost use Rattle.hearing.specs.declared.Fault.TheVariants.{Memory};
 ghost use Rattle.hearing.specs.Forecasts.{Answers};
+ghost use Rattle.hearing.specs.Written.{verdict_word};
 ghost use Rattle.hearing.specs.Hearing.{heard, hearing, Settled};
 ghost use Rattle.numbering.specs.Meaning.{Lawful};
 
 use numbering::{Numbering, Settling};
 use std::alloc::{AllocError, Global};
+use std::fmt;
 
 #[derive(Clone, Copy, PartialEq, Eq, Debug)]
 pub enum Verdict {
     Accepted,
     Refused,
+}
+
+impl fmt::Display for Verdict {
+    ghost output = { λ v. Some (verdict_word v) };
+
+    fn fmt<W: fmt::Write>(&self, f: &mut fmt::Formatter<W>) -> fmt::Result {
+        f.write_str(match self {
+            Verdict::Accepted => "accepted",
+            Verdict::Refused => "refused",
+        })
+    }
 }
 
 // A flood as a sensor hears it: its number, the verdict, and the number held after.
@@ -28,23 +41,21 @@ pub struct Heard<Number> {
 pub fn hear<N: Numbering>(numbering: &N, held: N::Number, number: N::Number) -> Heard<N::Number>
     ensures { result ≡ heard (N.Numbering.meaning numbering.now) held number }
 {
-    if numbering.fresh(number, held) {
-        Heard {
-            number,
-            verdict: Verdict::Accepted,
-            held: number,
-        }
+    let (verdict, held) = if numbering.fresh(number, held) {
+        (Verdict::Accepted, number)
     } else {
-        Heard {
-            number,
-            verdict: Verdict::Refused,
-            held,
-        }
+        (Verdict::Refused, held)
+    };
+    Heard {
+        number,
+        verdict,
+        held,
     }
 }
 
 // The first floods of a base that holds `base`, at most `most` and as far as numbers follow, each
 // heard by a sensor that holds `held`.
+#[tactic(auto, using(crate::proofs::Hears::none_follows, crate::proofs::Hears::one_more))]
 pub fn hear_floods<N: Numbering>(
     heap: Global,
     numbering: &N,

@@ -5,20 +5,20 @@ use Rattle.std.specs.Str.Parse.{digits_value, without_leading_plus, ParsesUnsign
 use Rattle.std.specs.Str.{all_ascii_digits}
 use Rattle.std.proofs.lemmas.Str.Parse.{IsNumeralModel, numerals_by_value, tells_all_ascii_digits}
 use Rattle.std.proofs.lemmas.Bool.Decides.{Decides-and, Decides-ltb}
-use Rattle.numbering.specs.Kinds.{given}
+use Rattle.std.specs.Bool.{then_some}
 use Rattle.inquiry.specs.Reading.{number_in}
 
 own : IsNumeralModel (λ ds. all_ascii_digits ds ≡ true) (digits_value 10)
 own = numerals_by_value _ tells_all_ascii_digits
 
 -- a conversion that succeeds just where a test holds
-converted_given : {E P : Type 0} (r : Result ℕ E) (v : ℕ) (b : Bool) → Decides b P → OkIff r P v → result_ok r ≡ given b v
-converted_given (Ok x) v b d (p, e) = ap Some e ∙ ap (λ (t : Bool). given t v) (sym (d.1 p))
-converted_given (Err x) v true d none = absurd (none (d.0 refl))
-converted_given (Err x) v false d none = refl
+converted : {E P : Type 0} (r : Result ℕ E) (v : ℕ) (b : Bool) → Decides b P → OkIff r P v → result_ok r ≡ then_some b v
+converted (Ok x) v b d (p, e) = ap Some e ∙ ap (λ (t : Bool). then_some t v) (sym (d.1 p))
+converted (Err x) v true d none = absurd (none (d.0 refl))
+converted (Err x) v false d none = refl
 
 pub reads_number : {E : Type 0} (word : List ℕ) (r : Result ℕ E) → ParsesUnsigned 32 10 word r → result_ok r ≡ number_in word
 reads_number word r =
     let digits = without_leading_plus word in
     let numeral = Decides-and _ _ (Decides-ltb 0 (length digits)) (own.to digits, own.from digits) in
-    converted_given r (digits_value 10 digits) _ (Decides-and _ _ numeral (Decides-ltb (digits_value 10 digits) (2 ^ 32)))
+    converted r (digits_value 10 digits) _ (Decides-and _ _ numeral (Decides-ltb (digits_value 10 digits) (2 ^ 32)))

@@ -1,9 +1,10 @@
 -- What `bound` answers to its words. Assumes nothing.
-use Rattle.std.specs.Prelude.{◌≡◌, ℕ, ◌^◌, min, List, Some, None, Ok, Err, string_bytes, Option, Result, String}
+use Rattle.std.specs.Prelude.{◌≡◌, ℕ, ◌^◌, Bool, min, List, Some, None, Ok, Err, string_bytes, Option, Result, String}
 use Rattle.std.specs.declared.alloc.Global.{Global}
-use Rattle.numbering.specs.Four.{free, linear, linear_patience, linear_catch_up, half, circular, circular_catch_up, differentiated}
+use Rattle.numbering.specs.Four.{free, linear, linear_patience, linear_catch_up, ring, half, circular_fresh, circular_catch_up, differs}
 use Rattle.numbering.specs.Kinds.{below, zero_of}
 use Rattle.numbering.specs.Meaning.{Meaning}
+use Rattle.numbering.specs.declared.kind.NumberKind.{Ghosts as KindOf}
 use Rattle.hearing.specs.Hearing.{hearing}
 use Rattle.inquiry.specs.declared.complaint.Complaint.{Complaint}
 use Rattle.inquiry.specs.declared.complaint.Complaint.TheVariants.{Words, Numbering, Smax, Held, Base, Memory}
@@ -26,10 +27,19 @@ Says answer (Err Smax) = answer ≡ Err Smax
 Says answer (Err Held) = answer ≡ Err Held
 Says answer (Err Base) = answer ≡ Err Base
 
+-- the lawful numbers that two words write, the sensor's and the base's
+abbrev pub both_in : {Num : Type 0} → Meaning Num → (ℕ → Option Num) → List ℕ → List ℕ → Result (Num × Num) Complaint
+both_in m of held base =
+    elim (lawful_in m of held) [ None ↦ Err Held | Some x ↦ elim (lawful_in m of base) [ None ↦ Err Base | Some b ↦ Ok (x, b) ] ]
+
 -- the forecast for the numbers that two words write, in a settling numbering
 abbrev pub settling : {Num : Type 0} → Meaning Num → ℕ → (Num → Num → ℕ) → (ℕ → Option Num) → (Num → ℕ) → List ℕ → List ℕ → Answer
 settling m G C of worth held base =
-    elim (lawful_in m of held) [ None ↦ Err Held | Some x ↦ elim (lawful_in m of base) [ None ↦ Err Base | Some b ↦ Ok (forecast_text worth G (C x b) (hearing m (min (C x b) listed) x b)) ] ]
+    elim (both_in m of held base) [ Err e ↦ Err e | Ok p ↦ Ok (forecast_text worth G (C p.0 p.1) (hearing m (min (C p.0 p.1) listed) p.0 p.1)) ]
+
+-- The same by the members of a settling numbering, which a clause writes `N.Settling`, and of its number kind.
+abbrev pub forecast_of : {N Num : Type 0} → record { meaning : N → Meaning Num; patience : N → ℕ; catchup : N → Num → Num → ℕ } → KindOf Num → N → List ℕ → List ℕ → Answer
+forecast_of s k n = settling (s.meaning n) (s.patience n) (s.catchup n) k.of k.worth
 
 -- two words, no fewer and no more
 abbrev pub two : (List ℕ → List ℕ → Answer) → List (List ℕ) → Answer
@@ -41,13 +51,17 @@ after_smax f words = elim (first_of words) [ None ↦ Err Words | Some p ↦ eli
 
 -- free does not settle, whichever lawful numbers are held
 abbrev pub free_answer : List ℕ → List ℕ → Answer
-free_answer held base = elim (lawful_in free zero_of held) [ None ↦ Err Held | Some x ↦ elim (lawful_in free zero_of base) [ None ↦ Err Base | Some b ↦ Ok free_text ] ]
+free_answer held base = elim (both_in free zero_of held base) [ Err e ↦ Err e | Ok p ↦ Ok free_text ]
+
+-- the forecast in a ring of the numbers 0 to smax, by a rule's freshness, patience and catch-up count
+abbrev pub ringed_answer : (ℕ → ℕ → ℕ → Bool) → (ℕ → ℕ) → (ℕ → ℕ) → ℕ → List (List ℕ) → Answer
+ringed_answer fresh G C smax = two (settling (ring smax (fresh smax)) (G smax) (λ x b. C smax) (below 256) (λ x. x))
 
 abbrev pub circular_answer : ℕ → List (List ℕ) → Answer
-circular_answer smax = two (settling (circular smax) (half smax) (λ x b. circular_catch_up smax) (below 256) (λ x. x))
+circular_answer = ringed_answer circular_fresh half circular_catch_up
 
 abbrev pub differentiated_answer : ℕ → List (List ℕ) → Answer
-differentiated_answer smax = two (settling (differentiated smax) smax (λ x b. smax) (below 256) (λ x. x))
+differentiated_answer = ringed_answer (λ smax. differs) (λ smax. smax) (λ smax. smax)
 
 abbrev pub answer_named : Name → List (List ℕ) → Answer
 answer_named Free = two free_answer

@@ -1,25 +1,25 @@
 -- The number that a word writes. Assumes nothing.
+use Rattle.std.specs.Bool.{then_some}
 use Rattle.std.specs.Prelude.{ℕ, ◌^◌, cond, ◌&&◌, List, [], ◌∷◌, length, Some, None, codes, Option, nat_le, nat_lt}
 use Rattle.std.specs.Str.Parse.{digits_value, without_leading_plus}
 use Rattle.std.specs.Str.{all_ascii_digits, bytes_eq}
 use Rattle.inquiry.specs.declared.reading.Name.{Name}
 use Rattle.inquiry.specs.declared.reading.Name.TheVariants.{Free, Linear, Circular, Differentiated}
-use Rattle.numbering.specs.Kinds.{given}
 use Rattle.numbering.specs.Meaning.{Meaning}
 
 -- decimal digits, after a plus sign or none, of a number of 32 bits
 abbrev pub number_in : List ℕ → Option ℕ
 number_in word =
     let digits = without_leading_plus word in
-    given ((nat_lt 0 (length digits) && all_ascii_digits digits) && nat_lt (digits_value 10 digits) (2 ^ 32)) (digits_value 10 digits)
+    then_some ((nat_lt 0 (length digits) && all_ascii_digits digits) && nat_lt (digits_value 10 digits) (2 ^ 32)) (digits_value 10 digits)
 
 -- the lawful number that a word writes, in a kind whose number of a value is `of`
 abbrev pub lawful_in : {Num : Type 0} → Meaning Num → (ℕ → Option Num) → List ℕ → Option Num
-lawful_in m of word = elim (number_in word) [ None ↦ None | Some v ↦ elim (of v) [ None ↦ None | Some x ↦ given (m.lawful x) x ] ]
+lawful_in m of word = elim (number_in word) [ None ↦ None | Some v ↦ elim (of v) [ None ↦ None | Some x ↦ then_some (m.lawful x) x ] ]
 
 -- an smax of 2 to 255
 abbrev pub smax_in : List ℕ → Option ℕ
-smax_in word = elim (number_in word) [ None ↦ None | Some v ↦ given (nat_le 2 v && nat_le v 255) v ]
+smax_in word = elim (number_in word) [ None ↦ None | Some v ↦ then_some (nat_le 2 v && nat_le v 255) v ]
 
 -- the numbering that a word names
 abbrev pub named : List ℕ → Option Name

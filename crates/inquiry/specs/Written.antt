@@ -1,16 +1,11 @@
 -- The text of a forecast. Assumes nothing.
 use Rattle.std.specs.Prelude.{ℕ, suc, cond, List, [], ◌∷◌, ◌++◌, length, codes, decimal, ◌==◌, nat_lt}
 use Rattle.hearing.specs.declared.Heard.{Heard}
-use Rattle.hearing.specs.declared.Verdict.{Verdict}
-use Rattle.hearing.specs.declared.Verdict.TheVariants.{Accepted, Refused}
+use Rattle.hearing.specs.Written.{verdict_word}
 
 -- at most so many floods are listed
 abbrev pub listed : ℕ
 listed = 512
-
-abbrev pub verdict_word : Verdict → List ℕ
-verdict_word Accepted = codes "accepted"
-verdict_word Refused = codes "refused"
 
 abbrev pub bound_line : ℕ → ℕ → List ℕ
 bound_line patience catch_up = codes "patience " ++ (decimal patience ++ (codes ", catch-up " ++ (decimal catch_up ++ codes "\n")))

@@ -1,27 +1,29 @@
-// Numbers in words.
-ghost use Rattle.std.specs.Prelude.{◌≡◌, map, Some, None, string_bytes, MatchOption};
+// What stands in words.
+ghost use Rattle.std.specs.Prelude.{◌≡◌, map, None, string_bytes, MatchOption, MatchResult};
+ghost use Rattle.std.specs.Option.{ok_or};
+ghost use Rattle.inquiry.specs.declared.complaint.Complaint.TheVariants.{Words, Numbering as NoNumbering};
 ghost use Rattle.inquiry.specs.Reading.{first_of, pair_of, named, number_in, lawful_in, smax_in};
 
-use numbering::{Circular, Differentiated, NumberKind, Numbering};
+use crate::complaint::Complaint;
+use numbering::{NumberKind, Numbering, Ringed, Rule};
+use std::str::FromStr;
 
 // The first word, and the words after it.
-pub fn first_of(words: &[String]) -> Option<(&str, &[String])>
-    ensures { MatchOption result (first_of (map string_bytes words.now) ≡ None) (λ p. first_of (map string_bytes words.now) ≡ Some (p.0.now, map string_bytes p.1.now)) }
+pub fn first_of(words: &[String]) -> Result<(&str, &[String]), Complaint>
+    ensures { MatchResult result (λ p. first_of (map string_bytes words.now) ≡ Some (p.0.now, map string_bytes p.1.now)) (λ e. (first_of (map string_bytes words.now) ≡ None) × (e ≡ Words)) }
 {
-    match words {
-        [word, rest @ ..] => Some((word.as_str(), rest)),
-        [] => None,
-    }
+    let (word, rest) = words.split_first().ok_or(Complaint::Words)?;
+    Ok((word.as_str(), rest))
 }
 
 // The words, where they are two.
-pub fn pair_of(words: &[String]) -> Option<(&str, &str)>
-    ensures { MatchOption result (pair_of (map string_bytes words.now) ≡ None) (λ p. pair_of (map string_bytes words.now) ≡ Some (p.0.now, p.1.now)) }
+pub fn pair_of(words: &[String]) -> Result<(&str, &str), Complaint>
+    ensures { MatchResult result (λ p. pair_of (map string_bytes words.now) ≡ Some (p.0.now, p.1.now)) (λ e. (pair_of (map string_bytes words.now) ≡ None) × (e ≡ Words)) }
 {
-    match words {
-        [v, w] => Some((v.as_str(), w.as_str())),
-        _ => None,
-    }
+    let [v, w] = words else {
+        return Err(Complaint::Words);
+    };
+    Ok((v.as_str(), w.as_str()))
 }
 
 // The four numberings, by name.
@@ -33,16 +35,19 @@ pub enum Name {
     Differentiated,
 }
 
-// The numbering that a word names.
-pub fn named(word: &str) -> Option<Name>
-    ensures { result ≡ named word.now }
-{
-    match word {
-        "free" => Some(Name::Free),
-        "linear" => Some(Name::Linear),
-        "circular" => Some(Name::Circular),
-        "differentiated" => Some(Name::Differentiated),
-        _ => None,
+impl FromStr for Name {
+    type Err = Complaint;
+
+    ghost from_str_gives = { λ word r. r ≡ ok_or (named word) NoNumbering };
+
+    fn from_str(word: &str) -> Result<Name, Complaint> {
+        match word {
+            "free" => Ok(Name::Free),
+            "linear" => Ok(Name::Linear),
+            "circular" => Ok(Name::Circular),
+            "differentiated" => Ok(Name::Differentiated),
+            _ => Err(Complaint::Numbering),
+        }
     }
 }
 
@@ -59,23 +64,12 @@ pub fn lawful_in<N: Numbering>(numbering: &N, word: &str) -> Option<N::Number>
     ensures { result ≡ lawful_in (N.Numbering.meaning numbering.now) N.Number.NumberKind.of word.now }
 {
     let number = N::Number::of_value(number_in(word)?)?;
-    if numbering.lawful(number) {
-        Some(number)
-    } else {
-        None
-    }
+    numbering.lawful(number).then_some(number)
 }
 
-// The circular numbering whose smax a word writes.
-pub fn circular_in(word: &str) -> Option<Circular>
-    ensures { MatchOption result (smax_in word.now ≡ None) (λ c. smax_in word.now ≡ Some c.ring.smax) }
+// The numbering over a ring whose smax a word writes.
+pub fn ringed_in<R: Rule>(word: &str) -> Option<Ringed<R>>
+    ensures { MatchOption result (smax_in word.now ≡ None) (λ m. smax_in word.now ≡ Some m.ring.smax) }
 {
-    Circular::new(u8::of_value(number_in(word)?)?)
-}
-
-// The differentiated numbering whose smax a word writes.
-pub fn differentiated_in(word: &str) -> Option<Differentiated>
-    ensures { MatchOption result (smax_in word.now ≡ None) (λ d. smax_in word.now ≡ Some d.ring.smax) }
-{
-    Differentiated::new(u8::of_value(number_in(word)?)?)
+    Ringed::new(u8::of_value(number_in(word)?)?)
 }

@@ -1,14 +1,27 @@
-// What `bound` answers to its words.
-ghost use Rattle.std.specs.Prelude.{map, string_bytes};
-ghost use Rattle.inquiry.specs.Answers.{Says, settling, two, after_smax, free_answer, circular_answer, differentiated_answer, answer};
+// What `bound` answers to its words. Heap and words stay apart: a struct of both is no shorter.
+ghost use Rattle.std.specs.Prelude.{◌≡◌, map, string_bytes};
+ghost use Rattle.inquiry.specs.Answers.{Says, both_in, forecast_of, two, after_smax, ringed_answer, free_answer, answer};
 
 use crate::complaint::Complaint;
-use crate::reading::{Name, circular_in, differentiated_in, first_of, lawful_in, named, pair_of};
+use crate::reading::{Name, first_of, lawful_in, pair_of, ringed_in};
 use crate::writing::{LISTED, write_forecast};
 use hearing::foretell;
-use numbering::{Free, Linear, Settling};
+use numbering::{AnyOther, Free, Linear, Numbering, Rule, Settling, UpToHalf};
 use std::alloc::Global;
 use std::fmt::Write;
+
+// The lawful numbers of the sensor and of the base, from two words.
+fn both_in<N: Numbering>(
+    numbering: &N,
+    held: &str,
+    base: &str,
+) -> Result<(N::Number, N::Number), Complaint>
+    ensures { result ≡ both_in (N.Numbering.meaning numbering.now) N.Number.NumberKind.of held.now base.now }
+{
+    let held = lawful_in(numbering, held).ok_or(Complaint::Held)?;
+    let base = lawful_in(numbering, base).ok_or(Complaint::Base)?;
+    Ok((held, base))
+}
 
 // The forecast, as text, for a sensor and a base that hold the numbers in two words.
 pub fn report<N: Settling>(
@@ -17,14 +30,9 @@ pub fn report<N: Settling>(
     held: &str,
     base: &str,
 ) -> Result<String, Complaint>
-    ensures { Says (settling (N.Numbering.meaning numbering.now) (N.Settling.patience numbering.now) (N.Settling.catchup numbering.now) N.Number.NumberKind.of N.Number.NumberKind.worth held.now base.now) result }
+    ensures { Says (forecast_of N.Settling N.Number.NumberKind numbering.now held.now base.now) result }
 {
-    let Some(held) = lawful_in(numbering, held) else {
-        return Err(Complaint::Held);
-    };
-    let Some(base) = lawful_in(numbering, base) else {
-        return Err(Complaint::Base);
-    };
+    let (held, base) = both_in(numbering, held, base)?;
     let forecast = foretell(heap, numbering, held, base, LISTED)?;
     let mut text = String::new(heap);
     write_forecast(&mut text, &forecast)?;
@@ -37,57 +45,27 @@ fn report_words<N: Settling>(
     numbering: &N,
     words: &[String],
 ) -> Result<String, Complaint>
-    ensures { Says (two (settling (N.Numbering.meaning numbering.now) (N.Settling.patience numbering.now) (N.Settling.catchup numbering.now) N.Number.NumberKind.of N.Number.NumberKind.worth) (map string_bytes words.now)) result }
+    ensures { Says (two (forecast_of N.Settling N.Number.NumberKind numbering.now) (map string_bytes words.now)) result }
 {
-    let Some((held, base)) = pair_of(words) else {
-        return Err(Complaint::Words);
-    };
+    let (held, base) = pair_of(words)?;
     report(heap, numbering, held, base)
 }
 
-fn reply_circular(heap: Global, words: &[String]) -> Result<String, Complaint>
-    ensures { Says (after_smax circular_answer (map string_bytes words.now)) result }
+// An smax comes before the two words.
+fn reply_ringed<R: Rule>(heap: Global, words: &[String]) -> Result<String, Complaint>
+    ensures { Says (after_smax (ringed_answer R.freshness R.patience R.catchup) (map string_bytes words.now)) result }
 {
-    let Some((smax, rest)) = first_of(words) else {
-        return Err(Complaint::Words);
-    };
-    match circular_in(smax) {
-        Some(numbering) => report_words(heap, &numbering, rest),
-        None => Err(Complaint::Smax),
-    }
-}
-
-fn reply_differentiated(heap: Global, words: &[String]) -> Result<String, Complaint>
-    ensures { Says (after_smax differentiated_answer (map string_bytes words.now)) result }
-{
-    let Some((smax, rest)) = first_of(words) else {
-        return Err(Complaint::Words);
-    };
-    match differentiated_in(smax) {
-        Some(numbering) => report_words(heap, &numbering, rest),
-        None => Err(Complaint::Smax),
-    }
+    let (smax, rest) = first_of(words)?;
+    let numbering = ringed_in::<R>(smax).ok_or(Complaint::Smax)?;
+    report_words(heap, &numbering, rest)
 }
 
 // Free has lawful numbers, but no patience and no catch-up count.
 fn reply_free(heap: Global, words: &[String]) -> Result<String, Complaint>
     ensures { Says (two free_answer (map string_bytes words.now)) result }
 {
-    let Some((held, base)) = pair_of(words) else {
-        return Err(Complaint::Words);
-    };
-    report_free(heap, held, base)
-}
-
-fn report_free(heap: Global, held: &str, base: &str) -> Result<String, Complaint>
-    ensures { Says (free_answer held.now base.now) result }
-{
-    if lawful_in(&Free, held).is_none() {
-        return Err(Complaint::Held);
-    }
-    if lawful_in(&Free, base).is_none() {
-        return Err(Complaint::Base);
-    }
+    let (held, base) = pair_of(words)?;
+    both_in(&Free, held, base)?;
     let mut text = String::new(heap);
     text.write_str("free does not settle: it has no patience and no catch-up count\n")?;
     Ok(text)
@@ -97,14 +75,11 @@ fn report_free(heap: Global, held: &str, base: &str) -> Result<String, Complaint
 pub fn reply(heap: Global, words: &[String]) -> Result<String, Complaint>
     ensures { Says (answer (map string_bytes words.now)) result }
 {
-    let Some((name, rest)) = first_of(words) else {
-        return Err(Complaint::Words);
-    };
-    match named(name) {
-        Some(Name::Free) => reply_free(heap, rest),
-        Some(Name::Linear) => report_words(heap, &Linear, rest),
-        Some(Name::Circular) => reply_circular(heap, rest),
-        Some(Name::Differentiated) => reply_differentiated(heap, rest),
-        None => Err(Complaint::Numbering),
+    let (name, rest) = first_of(words)?;
+    match name.parse::<Name>()? {
+        Name::Free => reply_free(heap, rest),
+        Name::Linear => report_words(heap, &Linear, rest),
+        Name::Circular => reply_ringed::<UpToHalf>(heap, rest),
+        Name::Differentiated => reply_ringed::<AnyOther>(heap, rest),
     }
 }

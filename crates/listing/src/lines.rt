@@ -1,11 +1,13 @@
 // The line of each record.
 ghost use Rattle.std.specs.Prelude.{◌≡◌};
-ghost use Rattle.page.specs.Pages.{Wrote, piece_text};
+ghost use Rattle.page.specs.Pages.{piece_text};
+ghost use Rattle.page.specs.Pens.{Wrote};
 ghost use Rattle.listing.specs.Lines.{numbering_name, mark_words, field_line, row_line, link_line, loss_line, play_line};
 
 use field::{Link, Loss};
-use page::{Piece, put};
+use page::{Pen, Piece};
 
+// By the code's byte: any file has a listing, also one whose code is none of the four.
 fn numbering_name(code: u8) -> &'static str
     ensures { result.now ≡ numbering_name code }
 {
@@ -30,30 +32,26 @@ pub struct Head {
 }
 
 #[tactic(auto, unfolding(crate::specs::Lines::field_line))]
-pub fn put_field(page: &mut [u8], at: usize, head: Head) -> usize
-    ensures { Wrote page.old at (field_line head.code head.smax head.n head.hmax head.tmax head.f head.seed) page.new result }
+pub fn put_field(pen: &mut Pen, head: Head)
+    ensures { Wrote pen.old pen.new (field_line head.code head.smax head.n head.hmax head.tmax head.f head.seed) }
 {
-    put(
-        page,
-        at,
-        &[
-            Piece::Words("field "),
-            Piece::Words(numbering_name(head.code)),
-            Piece::Words(" smax "),
-            Piece::Number(u64::from(head.smax)),
-            Piece::Words(" sensors "),
-            Piece::Number(u64::from(head.n)),
-            Piece::Words(" hmax "),
-            Piece::Number(u64::from(head.hmax)),
-            Piece::Words(" tmax "),
-            Piece::Number(u64::from(head.tmax)),
-            Piece::Words(" f "),
-            Piece::Number(u64::from(head.f)),
-            Piece::Words(" seed "),
-            Piece::Number(u64::from(head.seed)),
-            Piece::Words("\n"),
-        ],
-    )
+    pen.line(&[
+        Piece::Words("field "),
+        Piece::Words(numbering_name(head.code)),
+        Piece::Words(" smax "),
+        Piece::Number(u64::from(head.smax)),
+        Piece::Words(" sensors "),
+        Piece::Number(u64::from(head.n)),
+        Piece::Words(" hmax "),
+        Piece::Number(u64::from(head.hmax)),
+        Piece::Words(" tmax "),
+        Piece::Number(u64::from(head.tmax)),
+        Piece::Words(" f "),
+        Piece::Number(u64::from(head.f)),
+        Piece::Words(" seed "),
+        Piece::Number(u64::from(head.seed)),
+        Piece::Words("\n"),
+    ])
 }
 
 fn mark_piece(mark: Option<u8>) -> Piece<'static>
@@ -66,84 +64,60 @@ fn mark_piece(mark: Option<u8>) -> Piece<'static>
 }
 
 #[tactic(auto, unfolding(crate::specs::Lines::row_line))]
-pub fn put_row(
-    page: &mut [u8],
-    at: usize,
-    word: &str,
-    sensor: u8,
-    timer: u16,
-    value: u32,
-    mark: Option<u8>,
-) -> usize
-    ensures { Wrote page.old at (row_line word.now sensor timer value mark) page.new result }
+pub fn put_row(pen: &mut Pen, word: &str, sensor: u8, timer: u16, value: u32, mark: Option<u8>)
+    ensures { Wrote pen.old pen.new (row_line word.now sensor timer value mark) }
 {
-    put(
-        page,
-        at,
-        &[
-            Piece::Words(word),
-            Piece::Words(" "),
-            Piece::Number(u64::from(sensor)),
-            Piece::Words(" timer "),
-            Piece::Number(u64::from(timer)),
-            Piece::Words(" holds "),
-            Piece::Number(u64::from(value)),
-            Piece::Words(" mark "),
-            mark_piece(mark),
-            Piece::Words("\n"),
-        ],
-    )
+    pen.line(&[
+        Piece::Words(word),
+        Piece::Words(" "),
+        Piece::Number(u64::from(sensor)),
+        Piece::Words(" timer "),
+        Piece::Number(u64::from(timer)),
+        Piece::Words(" holds "),
+        Piece::Number(u64::from(value)),
+        Piece::Words(" mark "),
+        mark_piece(mark),
+        Piece::Words("\n"),
+    ])
 }
 
 #[tactic(auto, unfolding(crate::specs::Lines::link_line))]
-pub fn put_link(page: &mut [u8], at: usize, link: Link) -> usize
-    ensures { Wrote page.old at (link_line link) page.new result }
+pub fn put_link(pen: &mut Pen, link: Link)
+    ensures { Wrote pen.old pen.new (link_line link) }
 {
-    put(
-        page,
-        at,
-        &[
-            Piece::Words("link "),
-            Piece::Number(u64::from(link.from)),
-            Piece::Words(" to "),
-            Piece::Number(u64::from(link.to)),
-            Piece::Words(" label "),
-            Piece::Number(u64::from(link.label)),
-            Piece::Words("\n"),
-        ],
-    )
+    pen.line(&[
+        Piece::Words("link "),
+        Piece::Number(u64::from(link.from)),
+        Piece::Words(" to "),
+        Piece::Number(u64::from(link.to)),
+        Piece::Words(" label "),
+        Piece::Number(u64::from(link.label)),
+        Piece::Words("\n"),
+    ])
 }
 
 #[tactic(auto, unfolding(crate::specs::Lines::loss_line))]
-pub fn put_loss(page: &mut [u8], at: usize, loss: Loss) -> usize
-    ensures { Wrote page.old at (loss_line loss) page.new result }
+pub fn put_loss(pen: &mut Pen, loss: Loss)
+    ensures { Wrote pen.old pen.new (loss_line loss) }
 {
-    put(
-        page,
-        at,
-        &[
-            Piece::Words("loss "),
-            Piece::Number(u64::from(loss.from)),
-            Piece::Words(" to "),
-            Piece::Number(u64::from(loss.to)),
-            Piece::Words(" at "),
-            Piece::Number(u64::from(loss.instant)),
-            Piece::Words("\n"),
-        ],
-    )
+    pen.line(&[
+        Piece::Words("loss "),
+        Piece::Number(u64::from(loss.from)),
+        Piece::Words(" to "),
+        Piece::Number(u64::from(loss.to)),
+        Piece::Words(" at "),
+        Piece::Number(u64::from(loss.instant)),
+        Piece::Words("\n"),
+    ])
 }
 
 #[tactic(auto, unfolding(crate::specs::Lines::play_line))]
-pub fn put_play(page: &mut [u8], at: usize, budget: u32) -> usize
-    ensures { Wrote page.old at (play_line budget) page.new result }
+pub fn put_play(pen: &mut Pen, budget: u32)
+    ensures { Wrote pen.old pen.new (play_line budget) }
 {
-    put(
-        page,
-        at,
-        &[
-            Piece::Words("play "),
-            Piece::Number(u64::from(budget)),
-            Piece::Words("\n"),
-        ],
-    )
+    pen.line(&[
+        Piece::Words("play "),
+        Piece::Number(u64::from(budget)),
+        Piece::Words("\n"),
+    ])
 }

@@ -1,58 +1,58 @@
 // The lines of a file, one behind another.
-ghost use Rattle.page.specs.Pages.{Wrote};
+ghost use Rattle.page.specs.Pens.{Wrote};
 ghost use Rattle.records.specs.Records.{records};
 ghost use Rattle.listing.specs.Lines.{head_line, sensor_line, record_line, lines};
 
 use crate::lines::{Head, put_field, put_link, put_loss, put_play, put_row};
 use checking::{link_at, mark_at};
-use page::Text;
+use page::{Pen, Text};
 use reading::loss_at;
-use records::{Kind, byte, four_bytes, is_kind, record_count, two_bytes};
+use records::{Kind, Record, record_count};
 
-fn put_head(page: &mut [u8], at: usize, file: &[u8]) -> usize
-    ensures { Wrote page.old at (head_line file.now) page.new result }
+fn put_head(pen: &mut Pen, file: &[u8])
+    ensures { Wrote pen.old pen.new (head_line file.now) }
 {
+    let record = Record { file, place: 0 };
     let head = Head {
-        code: byte(file, 0, 1),
-        smax: byte(file, 0, 5),
-        n: byte(file, 0, 2),
-        hmax: byte(file, 0, 3),
-        tmax: byte(file, 0, 4),
-        f: two_bytes(file, 0, 6),
-        seed: four_bytes(file, 0, 8),
+        code: record.byte(1),
+        smax: record.byte(5),
+        n: record.byte(2),
+        hmax: record.byte(3),
+        tmax: record.byte(4),
+        f: record.two_bytes(6),
+        seed: record.four_bytes(8),
     };
-    put_field(page, at, head)
+    put_field(pen, head)
 }
 
-fn put_sensor(page: &mut [u8], at: usize, word: &str, file: &[u8], k: usize) -> usize
-    ensures { Wrote page.old at (sensor_line file.now word.now k) page.new result }
+fn put_sensor(pen: &mut Pen, word: &str, here: Record)
+    ensures { Wrote pen.old pen.new (sensor_line here.entry.file.now word.now here.entry.place) }
 {
     put_row(
-        page,
-        at,
+        pen,
         word,
-        byte(file, k, 1),
-        two_bytes(file, k, 4),
-        four_bytes(file, k, 8),
-        mark_at(file, k),
+        here.byte(1),
+        here.two_bytes(4),
+        here.four_bytes(8),
+        mark_at(here),
     )
 }
 
-fn put_record(page: &mut [u8], at: usize, file: &[u8], k: usize) -> usize
-    ensures { Wrote page.old at (record_line file.now k) page.new result }
+fn put_record(pen: &mut Pen, here: Record)
+    ensures { Wrote pen.old pen.new (record_line here.entry.file.now here.entry.place) }
 {
-    if k == 0 {
-        put_head(page, at, file)
-    } else if k <= usize::from(byte(file, 0, 2)) {
-        put_sensor(page, at, "sensor", file, k)
-    } else if is_kind(file, k, Kind::Link) {
-        put_link(page, at, link_at(file, k))
-    } else if is_kind(file, k, Kind::Loss) {
-        put_loss(page, at, loss_at(file, k))
-    } else if is_kind(file, k, Kind::Play) {
-        put_play(page, at, four_bytes(file, k, 4))
+    if here.place == 0 {
+        put_head(pen, here.file)
+    } else if here.place <= usize::from(here.at(0).byte(2)) {
+        put_sensor(pen, "sensor", here)
+    } else if here.is(Kind::Link) {
+        put_link(pen, link_at(here))
+    } else if here.is(Kind::Loss) {
+        put_loss(pen, loss_at(here))
+    } else if here.is(Kind::Play) {
+        put_play(pen, here.four_bytes(4))
     } else {
-        put_sensor(page, at, "damage", file, k)
+        put_sensor(pen, "damage", here)
     }
 }
 
@@ -65,11 +65,11 @@ pub struct Listing<'a> {
 impl<'a> Text for Listing<'a> {
     ghost text = { λ s. lines s.file.now (records s.file.now) };
 
-    fn put(&self, page: &mut [u8], at: usize) -> usize {
-        let mut behind = at;
-        for k in 0..record_count(self.file) {
-            behind = put_record(page, behind, self.file, k);
+    fn put(&self, pen: &mut Pen) {
+        // By place, since a record's place says what it is.
+        for place in 0..record_count(self.file) {
+            let file = self.file;
+            put_record(pen, Record { file, place });
         }
-        behind
     }
 }

@@ -2,9 +2,10 @@
 use Rattle.std.proofs.Common.{◌≡◌, ℕ, ◌-◌, ◌*◌, ◌%◌, ◌<◌, ◌≤◌, Bool, true, false, cond, not, ◌&&◌, ◌||◌, eqb, ltb, leb, List, length, sym, refl, ◌∙◌, subst, arith, ne_eqb, eqb-true, le-leb, leb-false, leb-true}
 use Rattle.records.specs.declared.Kind.{Kind}
 use Rattle.records.specs.declared.Kind.TheVariants.{Field, Sensor, Link, Loss, Play}
-use Rattle.records.specs.Records.{records, byte, two_bytes, four_bytes, letter, is_kind}
+use Rattle.records.specs.Records.{records, byte, two_bytes, four_bytes, is_kind}
+use Rattle.records.specs.Kinds.{letter}
 use Rattle.field.specs.Rows.{clock_keeps}
-use Rattle.checking.specs.Codes.{lawful_value}
+use Rattle.filed.specs.Codes.{lawful_value}
 use Rattle.checking.specs.Cases.{mark_at, file_n, file_code, file_smax, file_hmax, file_tmax, file_f, zeros, sensor_zeros, link_zeros, loss_zeros, play_zeros, misplaced}
 use Rattle.checking.proofs.Passes.{false_true, Passed}
 use Rattle.std.proofs.lemmas.Bool.{and_parts, cond-false, cond-true, lt-leb, not-false, or_parts}

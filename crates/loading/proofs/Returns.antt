@@ -10,7 +10,7 @@ use Rattle.field.specs.declared.Loss.{Loss as Lost}
 use Rattle.sections.specs.Parts.{leading, past_rows, past_links, row_records, link_records, loss_records, act_records}
 use Rattle.checking.specs.Cases.{link_at, mark_at, file_n, file_code, file_smax}
 use Rattle.checking.proofs.Passes.{false_true, Passed}
-use Rattle.checking.specs.Codes.{lawful_value}
+use Rattle.filed.specs.Codes.{lawful_value}
 use Rattle.field.specs.declared.Row.{Row}
 use Rattle.filed.specs.Values.{lawful_of}
 use Rattle.filling.specs.Filled.{filled}

@@ -10,7 +10,7 @@ use Rattle.filed.specs.Values.{lawful_of}
 use Rattle.recording.specs.Bytes.{field_bytes}
 use Rattle.sections.specs.Parts.{row_records, link_records, loss_records, act_records}
 use Rattle.checking.specs.Cases.{file_code, file_smax}
-use Rattle.checking.specs.Codes.{lawful_value}
+use Rattle.filed.specs.Codes.{lawful_value}
 use Rattle.checking.proofs.Passes.{passed}
 use Rattle.loading.specs.declared.counts.Counts.{Counts}
 use Rattle.loading.specs.Loads.{lent, counted, admitted, FilesSettings, rows_filled, links_filled, losses_filled}

@@ -72,10 +72,10 @@ losses_filled losses = filled (λ k. Some (loss_at losses k)) (records losses)
 abbrev pub acts_filled : {Num : Type 0} → (ℕ → Option Num) → List ℕ → List (Act Num) → List (Act Num)
 acts_filled of acts = filled (act_at of acts) (records acts)
 
--- a buffer that is filled where the file is admitted, and else stays
-abbrev pub unless_refused : {A : Type 0} → Result (Unit {0}) RunFault → List A → List A → List A
-unless_refused (Ok t) new old = new
-unless_refused (Err fault) new old = old
+-- a buffer that is filled where the file is loaded, and else stays
+abbrev pub if_loaded : {A : Type 0} → Result Loaded RunFault → List A → List A → List A
+if_loaded (Ok loaded) new old = new
+if_loaded (Err fault) new old = old
 
 -- what was loaded, written, is the file up to its acts
 abbrev pub Returned : {Num : Type 0} → List ℕ → (Num → ℕ) → ℕ → ℕ → List (Row Num) → List Link → List Loss → Result Loaded RunFault → Type 0

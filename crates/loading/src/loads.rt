@@ -1,16 +1,17 @@
 // Loading: the whole file is checked before a buffer is filled.
 ghost use Rattle.std.specs.Prelude.{◌≡◌};
 ghost use Rattle.sections.specs.Parts.{row_records, link_records, loss_records, act_records};
-ghost use Rattle.loading.specs.Loads.{counts_of, lent, named_right, counted, Admits, rows_filled, links_filled, losses_filled, acts_filled, admitted, Loads, unless_refused, Returned};
+ghost use Rattle.filling.specs.Filled.{filled};
+ghost use Rattle.records.specs.Records.{records};
+ghost use Rattle.loading.specs.Loads.{counts_of, lent, named_right, counted, Admits, rows_filled, links_filled, losses_filled, acts_filled, Loads, if_loaded, Returned};
 
 use crate::counts::Counts;
-use crate::sources::{ActsIn, LinksIn, LossesIn, RowsIn};
-use checking::check_file;
+use checking::{check_file, settings_in};
 use field::{Act, Link, Loss, Row, Settings};
 use filed::Filed;
 use filling::fill;
-use numbering::Numbering;
-use records::{byte, four_bytes, record_count, two_bytes};
+use reading::FromRecord;
+use records::{Record, record_count};
 use refusal::{FieldFault, RunFault};
 use sections::{Parts, cut};
 
@@ -22,10 +23,11 @@ pub struct Loaded {
 }
 
 // Is the numbering that is lent the file's?
-fn named_right(file: &[u8], code: u8, smax: u8) -> Result<(), RunFault>
-    ensures { result ≡ named_right file.now code smax }
+fn named_right<N: Filed>(file: &[u8], numbering: &N) -> Result<(), RunFault>
+    ensures { result ≡ named_right file.now (N.Filed.coded numbering.now) (N.Filed.top numbering.now) }
 {
-    if code == byte(file, 0, 1) && smax == byte(file, 0, 5) {
+    let head = Record { file, place: 0 };
+    if numbering.code() == head.byte(1) && numbering.smax() == head.byte(5) {
         Ok(())
     } else {
         Err(RunFault::Field(FieldFault::BadSetting))
@@ -33,26 +35,20 @@ fn named_right(file: &[u8], code: u8, smax: u8) -> Result<(), RunFault>
 }
 
 // The settings of a file that passes every case, under its own numbering, with room enough.
-fn admit(
+#[tactic(auto, unfolding(crate::specs::Loads::admitted))]
+fn admit<N: Filed>(
     file: &[u8],
-    code: u8,
-    smax: u8,
+    numbering: &N,
     counts: Counts,
     room: Counts,
 ) -> Result<Settings, RunFault>
     requires { counts ≡ counted file.now }
-    ensures { Admits file.now code smax room result }
+    ensures { Admits file.now (N.Filed.coded numbering.now) (N.Filed.top numbering.now) room result }
 {
     check_file(file)?;
-    named_right(file, code, smax)?;
+    named_right(file, numbering)?;
     counts.fit(room)?;
-    let settings = Settings::new(
-        byte(file, 0, 2),
-        byte(file, 0, 3),
-        byte(file, 0, 4),
-        two_bytes(file, 0, 6),
-        four_bytes(file, 0, 8),
-    )?;
+    let settings = settings_in(file)?;
     Ok(settings)
 }
 
@@ -67,42 +63,15 @@ fn counts_of(parts: Parts) -> Counts
     }
 }
 
-// Fills the front of each buffer; the rest of it stays.
-fn fill_all<N: Numbering>(
-    numbering: &N,
-    parts: Parts,
-    rows: &mut [Row<N::Number>],
-    links: &mut [Link],
-    losses: &mut [Loss],
-    acts: &mut [Act<N::Number>],
-)
-    ensures rows { rows.new ≡ rows_filled N.Number.NumberKind.of parts.entry.rows.now rows.old }
-    ensures links { links.new ≡ links_filled parts.entry.links.now links.old }
-    ensures losses { losses.new ≡ losses_filled parts.entry.losses.now losses.old }
-    ensures acts { acts.new ≡ acts_filled N.Number.NumberKind.of parts.entry.acts.now acts.old }
+// Fills the front of a buffer with what records are read as; the rest of it stays.
+fn fill_from<T: FromRecord>(out: &mut [T], file: &[u8])
+    ensures { out.new ≡ filled (T.FromRecord.read file.now) (records file.now) out.old }
 {
-    let row_source = RowsIn {
-        numbering,
-        records: parts.rows,
-    };
-    let act_source = ActsIn {
-        numbering,
-        records: parts.acts,
-    };
-    fill(&row_source, rows);
     fill(
-        &LinksIn {
-            records: parts.links,
-        },
-        links,
+        out,
+        record_count(file),
+        |place| T::from_record(Record { file, place }),
     );
-    fill(
-        &LossesIn {
-            records: parts.losses,
-        },
-        losses,
-    );
-    fill(&act_source, acts);
 }
 
 // Loads a field: its settings and counts are answered, its rows, links, losses and acts fill the
@@ -116,10 +85,10 @@ pub fn load<N: Filed>(
     acts: &mut [Act<N::Number>],
 ) -> Result<Loaded, RunFault>
     ensures value { Loads file.now (N.Filed.coded numbering.now) (N.Filed.top numbering.now) (lent rows.old links.old losses.old acts.old) result }
-    ensures rows { rows.new ≡ unless_refused (admitted file.now (N.Filed.coded numbering.now) (N.Filed.top numbering.now) (lent rows.old links.old losses.old acts.old)) (rows_filled N.Number.NumberKind.of (row_records file.now) rows.old) rows.old }
-    ensures links { links.new ≡ unless_refused (admitted file.now (N.Filed.coded numbering.now) (N.Filed.top numbering.now) (lent rows.old links.old losses.old acts.old)) (links_filled (link_records file.now) links.old) links.old }
-    ensures losses { losses.new ≡ unless_refused (admitted file.now (N.Filed.coded numbering.now) (N.Filed.top numbering.now) (lent rows.old links.old losses.old acts.old)) (losses_filled (loss_records file.now) losses.old) losses.old }
-    ensures acts { acts.new ≡ unless_refused (admitted file.now (N.Filed.coded numbering.now) (N.Filed.top numbering.now) (lent rows.old links.old losses.old acts.old)) (acts_filled N.Number.NumberKind.of (act_records file.now) acts.old) acts.old }
+    ensures rows { rows.new ≡ if_loaded result (rows_filled N.Number.NumberKind.of (row_records file.now) rows.old) rows.old }
+    ensures links { links.new ≡ if_loaded result (links_filled (link_records file.now) links.old) links.old }
+    ensures losses { losses.new ≡ if_loaded result (losses_filled (loss_records file.now) losses.old) losses.old }
+    ensures acts { acts.new ≡ if_loaded result (acts_filled N.Number.NumberKind.of (act_records file.now) acts.old) acts.old }
     ensures back { Returned file.now N.Number.NumberKind.worth (N.Filed.coded numbering.now) (N.Filed.top numbering.now) rows.new links.new losses.new result }
 {
     let parts = cut(file);
@@ -130,11 +99,10 @@ pub fn load<N: Filed>(
         losses: losses.len(),
         acts: acts.len(),
     };
-    match admit(file, numbering.code(), numbering.smax(), counts, room) {
-        Ok(settings) => {
-            fill_all(numbering, parts, rows, links, losses, acts);
-            Ok(Loaded { settings, counts })
-        }
-        Err(fault) => Err(fault),
-    }
+    let settings = admit(file, numbering, counts, room)?;
+    fill_from(rows, parts.rows);
+    fill_from(links, parts.links);
+    fill_from(losses, parts.losses);
+    fill_from(acts, parts.acts);
+    Ok(Loaded { settings, counts })
 }

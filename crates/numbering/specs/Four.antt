@@ -1,7 +1,7 @@
 -- The four numberings, by their meaning, and the patience and catch-up count of those that settle. Assumes nothing.
+use Rattle.std.specs.Bool.{then_some}
 use Rattle.std.specs.Prelude.{ℕ, ◌+◌, ◌-◌, ◌/◌, ◌%◌, ◌^◌, Bool, true, not, ◌&&◌, Some, ◌==◌, nat_le, nat_lt}
 use Rattle.numbering.specs.declared.kind.Zero.{Zero}
-use Rattle.numbering.specs.Kinds.{given}
 use Rattle.numbering.specs.Meaning.{Meaning}
 
 -- Free: the only number follows itself, and every copy is fresh.
@@ -10,7 +10,7 @@ free = record { lawful = λ s. true; next = λ s. Some s; fresh = λ copy held. 
 
 -- Linear: numbers of 32 bits, the next is one more, none follows the last, and the larger is fresh.
 abbrev pub linear : Meaning ℕ
-linear = record { lawful = λ s. nat_lt s (2 ^ 32); next = λ s. given (nat_lt s 4294967295) (s + 1); fresh = λ copy held. nat_lt held copy }
+linear = record { lawful = λ s. nat_lt s (2 ^ 32); next = λ s. then_some (nat_lt s 4294967295) (s + 1); fresh = λ copy held. nat_lt held copy }
 
 abbrev pub linear_patience : ℕ
 linear_patience = 255

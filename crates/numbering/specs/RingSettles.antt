@@ -1,8 +1,8 @@
 -- Circular and differentiated settle: both count steps round the ring. Assumes nothing.
-use Rattle.std.specs.Prelude.{◌≡◌, ℕ, zero, suc, ◌+◌, ◌-◌, ◌%◌, ◌<◌, ◌≤◌, Bool, true, false, not, ◌&&◌, ◌⊎◌, Some, ◌==◌, nat_le, refl}
-use Rattle.std.proofs.Common.{sym, ap, subst, ◌∙◌, inl, inr, mod-eq_of_lt, arith, le-leb, leb-true, leb-false, eqb-true, eq-eqb, ne_eqb}
+use Rattle.std.specs.Prelude.{◌≡◌, ℕ, zero, suc, ◌+◌, ◌-◌, ◌%◌, ◌<◌, ◌≤◌, Bool, true, false, not, ◌&&◌, ◌⊎◌, Some, nat_le, refl}
+use Rattle.std.proofs.lemmas.Bool.Decides.{nat_tests}
+use Rattle.std.proofs.Common.{sym, ap, subst, ◌∙◌, inl, inr, mod-eq_of_lt, arith, leb-true, leb-false, eq-eqb, ne_eqb}
 use Rattle.std.proofs.Math.Nat.{mod-add-mod, add-mod_right}
-use Rattle.std.proofs.lemmas.Bool.{and_from}
 use Rattle.numbering.specs.Four.{ring, distance, half, circular, circular_fresh, circular_catch_up, differs, differentiated}
 use Rattle.numbering.specs.Meaning.{after, Settles}
 use Rattle.numbering.specs.After.{after_at}
@@ -52,8 +52,7 @@ module _ (smax : ℕ) where
 
   circular_ahead : (s k : ℕ) → s ≤ smax → 1 ≤ k → k ≤ half smax → circular_fresh smax (ahead smax s k) s ≡ true
   circular_ahead s k l low high =
-      let d = distance_ahead s k l (omega arith) in
-      and_from _ _ (le-leb 1 _ (omega (arith, d))) (le-leb _ (half smax) (omega (arith, d)))
+      let d = distance_ahead s k l (omega arith) in grind (arith, nat_tests)
 
   circular_near : (x k : ℕ) → x ≤ smax → k ≤ half smax → (circular_fresh smax (ahead smax x k) x ≡ true) ⊎ (ahead smax x k ≡ x)
   circular_near x zero l h = inr (sym (at_itself x l))
@@ -81,11 +80,7 @@ circular_settles smax least = record {
 
 -- a number differs, or is the same
 differs_or_same : (t x : ℕ) → (differs t x ≡ true) ⊎ (t ≡ x)
-differs_or_same t x = by (t == x) refl
-  where
-    by : (c : Bool) → (t == x) ≡ c → (not (t == x) ≡ true) ⊎ (t ≡ x)
-    by true e = inr (eqb-true t x e)
-    by false e = inl (ap not e)
+differs_or_same t x = grind (arith, nat_tests)
 
 pub differentiated_settles : (smax : ℕ) → 2 ≤ smax → Settles (differentiated smax) smax (λ x b. smax)
 differentiated_settles smax least = record {

@@ -1,64 +1,30 @@
 // Differentiated: a copy passes for new when its number is another one.
-ghost use Rattle.std.specs.Prelude.{◌≡◌, ◌<◌, MatchOption};
-ghost use Rattle.numbering.specs.Four.{differentiated};
-ghost use Rattle.std.proofs.Common.{rules};
+ghost use Rattle.numbering.specs.Four.{differs};
 ghost use Rattle.numbering.specs.RingSettles.{differentiated_settles};
 
-use crate::numbering::{Numbering, Settling};
 use crate::ring::Ring;
+use crate::ringed::{Ringed, Rule};
+
+pub type Differentiated = Ringed<AnyOther>;
 
 #[derive(Clone, Copy)]
-pub struct Differentiated {
-    ring: Ring,
-}
+pub struct AnyOther;
 
-impl Differentiated {
-    // None exactly where smax is out of 2 to 255.
-    pub fn new(smax: u8) -> Option<Differentiated>
-        ensures { MatchOption result (smax < 2) (λ d. d.ring.smax ≡ smax) }
-    {
-        let ring = Ring::new(smax)?;
-        Some(Differentiated { ring })
-    }
+impl Rule for AnyOther {
+    ghost freshness = { λ _. differs };
 
-    pub fn smax(&self) -> u8
-        ensures { result ≡ self.now.ring.smax }
-    {
-        self.ring.smax()
-    }
-}
+    ghost patience = { λ smax. smax };
 
-impl Numbering for Differentiated {
-    type Number = u8;
+    ghost catchup = { λ smax. smax };
 
-    ghost meaning = { λ d. differentiated d.ring.smax };
+    ghost settles = { differentiated_settles };
 
-    ghost follows = { Prim.search rules };
-
-    ghost among = { Prim.search rules };
-
-    fn lawful(&self, number: u8) -> bool {
-        self.ring.has(number)
-    }
-
-    fn next(&self, number: u8) -> Option<u8> {
-        Some(self.ring.next(number))
-    }
-
-    fn fresh(&self, copy: u8, held: u8) -> bool {
+    fn fresh(_ring: Ring, copy: u8, held: u8) -> bool {
         copy != held
     }
-}
 
-impl Settling for Differentiated {
-    ghost patience = { λ d. d.ring.smax };
-
-    ghost catchup = { λ d _ _. d.ring.smax };
-
-    ghost settles = { λ m. differentiated_settles m.ring.smax m.ring.least };
-
-    fn figures(&self, _held: u8, _base: u8) -> (u64, u64) {
-        let smax = u64::from(self.ring.smax());
+    fn figures(ring: Ring) -> (u64, u64) {
+        let smax = u64::from(ring.smax());
         (smax, smax)
     }
 }

@@ -44,10 +44,11 @@ impl NumberKind for Zero {
     }
 
     fn of_value(value: u32) -> Option<Zero> {
-        if value == 0 { Some(Zero) } else { None }
+        (value == 0).then_some(Zero)
     }
 }
 
+// An impl for each width: the gate refuses impls that a macro of the repository writes.
 impl NumberKind for u8 {
     ghost among = { λ x. nat_lt x 256 };
 

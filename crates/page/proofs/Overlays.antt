@@ -1,6 +1,6 @@
 -- Laws of a text laid on a page. Assumes nothing.
-use Rattle.std.proofs.Common.{◌≡◌, ℕ, zero, suc, ◌+◌, ◌≤◌, List, [], ◌∷◌, ◌++◌, length, drop, set, sym, refl, ap, ◌∙◌, suc-add, zero-add, arith}
-use Rattle.page.specs.Pages.{overlay}
+use Rattle.std.proofs.Common.{◌≡◌, ℕ, zero, suc, ◌+◌, ◌≤◌, List, [], ◌∷◌, ◌++◌, length, drop, set, sym, refl, ap, ◌∙◌, suc-add, zero-add, arith, min, Bool, true, false, leb, leb-true, leb-false}
+use Rattle.page.specs.Pages.{overlay, last}
 
 pub overlay_nothing : (page : List ℕ) (at : ℕ) → overlay page at [] ≡ page
 unfolding overlay
@@ -15,11 +15,21 @@ overlay_byte (x ∷ page) zero b = ap (λ (p : List ℕ). b ∷ p) (overlay_noth
 overlay_byte (x ∷ page) (suc at) b = ap (λ (p : List ℕ). x ∷ p) (overlay_byte page at b)
 
 -- past its end a page takes nothing
-pub overlay_past : (page : List ℕ) (at : ℕ) (text : List ℕ) → length page ≤ at → overlay page at text ≡ page
+overlay_past : (page : List ℕ) (at : ℕ) (text : List ℕ) → length page ≤ at → overlay page at text ≡ page
 unfolding overlay
 overlay_past [] at text h = refl
 overlay_past (x ∷ page) zero text h = absurd (omega arith)
 overlay_past (x ∷ page) (suc at) text h = ap (λ (p : List ℕ). x ∷ p) (overlay_past page at text (omega arith))
+
+-- the last place stands for each place after it
+pub overlay_last : (page : List ℕ) (at : ℕ) (text : List ℕ) → length page ≤ last → overlay page (min at last) text ≡ overlay page at text
+overlay_last page at text small = by (leb at last) refl
+  where
+    by : (b : Bool) → leb at last ≡ b → overlay page (min at last) text ≡ overlay page at text
+    by true e = ap (λ (k : ℕ). overlay page k text) (omega (arith, leb-true at last e))
+    by false e =
+        let far = leb-false at last e in
+        overlay_past page (min at last) text (omega arith) ∙ sym (overlay_past page at text (omega arith))
 
 pub overlay_length : (page : List ℕ) (at : ℕ) (text : List ℕ) → length (overlay page at text) ≡ length page
 unfolding overlay

@@ -1,49 +1,33 @@
 -- Laws of texts put one behind another. Assumes nothing.
-use Rattle.std.proofs.Common.{◌≡◌, ℕ, zero, suc, ◌+◌, ◌/◌, ◌%◌, ◌^◌, ◌<◌, ◌≤◌, min, Bool, true, false, leb, List, [], ◌∷◌, ◌++◌, length, get_or, take, set, Some, decimal, sym, refl, ap, ◌∙◌, subst, append_assoc, append-nil, add-zero, add-suc, suc-add, add-one, arith, length-append, le-leb, leb-false, leb-true}
-use Rattle.std.proofs.lemmas.Fmt.{decimal_digit, decimal_step}
-use Rattle.page.specs.Pages.{overlay, last, Wrote, joined, fitting, written}
-use Rattle.page.proofs.Overlays.{overlay_nothing, overlay_byte, overlay_past, overlay_length, overlay_then, overlay_front}
+use Rattle.std.proofs.Common.{◌≡◌, ℕ, zero, suc, ◌+◌, ◌<◌, ◌≤◌, min, List, [], ◌∷◌, ◌++◌, length, get_or, take, set, sym, refl, ap, ◌∙◌, subst, append_assoc, append-nil, add-zero, zero-add, add-suc, suc-add, add-one, arith, length-append, le-leb}
+use Rattle.page.specs.declared.pen.Pen.{Pen}
+use Rattle.page.specs.Pages.{overlay, last, joined, written}
+use Rattle.page.specs.Pens.{Wrote}
+use Rattle.page.proofs.Overlays.{overlay_nothing, overlay_byte, overlay_last, overlay_length, overlay_then, overlay_front}
 
-pub wrote_nothing : (page : List ℕ) (at : ℕ) → at ≤ last → Wrote page at [] page at
-wrote_nothing page at h = record { laid = sym (overlay_nothing page at); place = omega arith }
+pub wrote_nothing : (pen : Pen) → Wrote pen pen []
+wrote_nothing pen = record { laid = sym (overlay_nothing pen.page.now pen.at); place = omega arith; same_page = refl }
 
-pub wrote_byte : (page after : List ℕ) (at b behind : ℕ) → after ≡ set page at b → behind ≡ min (at + 1) last → Wrote page at (b ∷ []) after behind
-wrote_byte page after at b behind e f = record { laid = e ∙ sym (overlay_byte page at b); place = f }
+pub wrote_byte : {old new : Pen} {b : ℕ} → new.page.now ≡ set old.page.now old.at b → new.at ≡ min (old.at + 1) last → new.page.ghost_name ≡ old.page.ghost_name → Wrote old new (b ∷ [])
+wrote_byte {old} {new} {b} e f same = record { laid = e ∙ sym (overlay_byte old.page.now old.at b); place = f; same_page = same }
 
-pub wrote_as : {page after : List ℕ} {at behind : ℕ} {s t : List ℕ} → s ≡ t → Wrote page at s after behind → Wrote page at t after behind
-wrote_as {page} {after} {at} {behind} {s} {t} e = subst (λ (u : List ℕ). Wrote page at u after behind) e
+pub wrote_as : {old new : Pen} {s t : List ℕ} → s ≡ t → Wrote old new s → Wrote old new t
+wrote_as {old} {new} e = subst (λ (u : List ℕ). Wrote old new u) e
 
--- one text behind another, on a page that has no place past the last
-pub wrote_then : {page mid end : List ℕ} {at between behind : ℕ} {s t : List ℕ} → length page ≤ last → Wrote page at s mid between → Wrote mid between t end behind → Wrote page at (s ++ t) end behind
-wrote_then {page} {mid} {end} {at} {between} {behind} {s} {t} small first second = record { laid = second.laid ∙ by (leb (at + length s) last) refl; place = place }
-  where
-    place : behind ≡ min (at + length (s ++ t)) last
-    place = rw (second.place, first.place, length-append s t) (omega arith)
+-- one text behind another
+pub wrote_then : {old mid new : Pen} {s t : List ℕ} → Wrote old mid s → Wrote mid new t → Wrote old new (s ++ t)
+wrote_then {old} {mid} {new} {s} {t} first second =
+    let small : length (overlay old.page.now old.at s) ≤ last = rw overlay_length (omega arith) in
+    record {
+      laid = second.laid ∙ rw (first.laid, first.place) (overlay_last _ (old.at + length s) t small ∙ overlay_then old.page.now old.at s t);
+      place = rw (second.place, first.place, length-append s t) (omega arith);
+      same_page = second.same_page ∙ first.same_page;
+    }
 
-    by : (b : Bool) → leb (at + length s) last ≡ b → overlay mid between t ≡ overlay page at (s ++ t)
-    by true e =
-        let near : between ≡ at + length s = omega (arith, leb-true (at + length s) last e, first.place) in
-        rw (near, first.laid) (overlay_then page at s t)
-    by false e =
-        let far = leb-false (at + length s) last e in
-        let end_of_lem = overlay_length page at s in
-        let past : length page ≤ between = omega (arith, first.place) in
-        rw first.laid (overlay_past (overlay page at s) between t (omega arith) ∙ sym (overlay_past (overlay page at s) (at + length s) t (omega arith)) ∙ overlay_then page at s t)
-
--- a text that was measured and found to fit
-pub wrote_front : {page after none rest : List ℕ} {size behind at : ℕ} {t : List ℕ} → Wrote none 0 t rest size → size ≤ length page → length page < last → Wrote page at t after behind → at ≡ 0 → (Some size ≡ fitting t page) × (after ≡ written t page)
-wrote_front {page} {after} {none} {rest} {size} {behind} {at} {t} measured room small wrote front =
-    let whole : size ≡ length t = omega (arith, measured.place) in
-    let fits : length t ≤ length page = omega arith in
-    (rw (le-leb (length t) (length page) fits, whole), rw (le-leb (length t) (length page) fits) (wrote.laid ∙ ap (λ (k : ℕ). overlay page k t) front ∙ overlay_front page t fits))
-
-pub wrote_digit : {page after : List ℕ} {at behind d : ℕ} (n : ℕ) → n < 10 → d ≡ 48 + n → Wrote page at (d ∷ []) after behind → Wrote page at (decimal n) after behind
-wrote_digit {d = d} n h e = wrote_as (rw e (sym (decimal_digit n h)))
-
--- the last digit, behind those before it
-pub wrote_digits : {page mid end : List ℕ} {at between behind d : ℕ} (n : ℕ) → length page ≤ last → 10 ≤ n → n < 2 ^ 64 → d ≡ 48 + n % 10 → Wrote page at (decimal (n / 10)) mid between → Wrote mid between (d ∷ []) end behind → Wrote page at (decimal n) end behind
-wrote_digits {page} {mid} {end} {at} {between} {behind} {d} n small h fits e first second =
-    wrote_as (rw e (sym (decimal_step n h fits))) (wrote_then small first second)
+-- a text that fits stands at the front of the page
+pub wrote_front : {old new : Pen} {t : List ℕ} → length t ≤ length old.page.now → Wrote old new t → old.at ≡ 0 → new.page.now ≡ written t old.page.now
+wrote_front {old} {new} {t} fits wrote front =
+    rw (le-leb (length t) (length old.page.now) fits) (wrote.laid ∙ ap (λ (k : ℕ). overlay old.page.now k t) front ∙ overlay_front old.page.now t fits)
 
 -- bytes one behind another are a text
 pub joined_bytes : (place : ℕ) (bytes : List ℕ) → joined (λ place b. b ∷ []) place bytes ≡ bytes
@@ -57,26 +41,8 @@ module _ {A : Type 0} (text : ℕ → A → List ℕ) where
   joined_more place (suc i) (y ∷ ys) x d h e =
       rw (joined_more (suc place) i ys x d (omega arith) e, add-suc place i, suc-add place i) (sym (append_assoc (text place y) _ _))
 
-  joined_all : (place i : ℕ) (xs : List A) → length xs ≤ i → joined text place (take i xs) ≡ joined text place xs
-  joined_all place zero [] h = refl
-  joined_all place (suc i) [] h = refl
-  joined_all place zero (x ∷ xs) h = absurd (omega arith)
-  joined_all place (suc i) (x ∷ xs) h = ap (λ (t : List ℕ). text place x ++ t) (joined_all (suc place) i xs (omega arith))
-
-  -- the texts of the first i items were put on the page
-  pub record Joining (place : ℕ) (xs : List A) (page : List ℕ) (at : ℕ) (i : ℕ) (after : List ℕ) (behind : ℕ) : Type 0 where
-    pub so_far : Wrote page at (joined text place (take i xs)) after behind
-
-module _ {A : Type 0} {text : ℕ → A → List ℕ} {place : ℕ} {xs : List A} {page : List ℕ} {at : ℕ} where
-  pub none_joined : at ≤ last → Joining text place xs page at 0 page at
-  none_joined h = record { so_far = wrote_nothing page at h }
-
-  module _ {i : ℕ} {after : List ℕ} {behind : ℕ} (old : Joining text place xs page at i after behind) where
-    pub all_joined : length xs ≤ i → Wrote page at (joined text place xs) after behind
-    all_joined h = wrote_as (joined_all text place i xs h) old.so_far
-
-    pub one_joined : {more : List ℕ} {next : ℕ} (x d : A) → length page ≤ last → i < length xs → Wrote after behind (text (place + i) x) more next → x ≡ get_or xs i d → Joining text place xs page at (i + 1) more next
-    one_joined {more} {next} x d small h wrote read =
-        let one = joined_more text place i xs x d h read in
-        let next = ap (λ (k : ℕ). joined text place (take k xs)) (add-one i) in
-        record { so_far = wrote_as (sym (next ∙ one)) (wrote_then small old.so_far wrote) }
+  -- the text of the item at i, behind those of the items before it
+  pub wrote_more : {old mid new : Pen} (xs : List A) (i : ℕ) (x d : A) → x ≡ get_or xs i d → i < length xs → Wrote old mid (joined text 0 (take i xs)) → Wrote mid new (text i x) → Wrote old new (joined text 0 (take (i + 1) xs))
+  wrote_more xs i x d e h first second =
+      let one = joined_more 0 i xs x d h e in
+      rw (add-one i, one, zero-add i) (wrote_then first second)

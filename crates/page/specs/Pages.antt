@@ -1,5 +1,5 @@
 -- Text on a page. Assumes nothing.
-use Rattle.std.specs.Prelude.{◌≡◌, ℕ, zero, suc, ◌+◌, ◌-◌, ◌^◌, min, cond, List, [], ◌∷◌, ◌++◌, length, drop, Some, None, decimal, Option, nat_le}
+use Rattle.std.specs.Prelude.{ℕ, zero, suc, ◌-◌, ◌^◌, cond, List, [], ◌∷◌, ◌++◌, length, drop, Some, None, decimal, Option, nat_le}
 use Rattle.page.specs.declared.Piece.{Piece}
 use Rattle.page.specs.declared.Piece.TheVariants.{Words, Number}
 
@@ -13,11 +13,6 @@ overlay (x ∷ page) zero (b ∷ text) = b ∷ overlay page zero text
 -- the last place there is, which stands for every place after it too
 abbrev pub last : ℕ
 last = 2 ^ 64 - 1
-
--- A text was put on a page: what the page holds after, and the place behind the text.
-pub record Wrote (page : List ℕ) (at : ℕ) (text : List ℕ) (after : List ℕ) (behind : ℕ) : Type 0 where
-  pub laid : after ≡ overlay page at text
-  pub place : behind ≡ min (at + length text) last
 
 -- the length of a text that fits on a page
 abbrev pub fitting : List ℕ → List ℕ → Option ℕ

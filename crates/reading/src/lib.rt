@@ -1,56 +1,86 @@
-// What the rows, losses and acts of a file are read as.
+// What a file's records are read as.
 #![tactic(auto)]
 
-ghost use Rattle.std.specs.Prelude.{◌≡◌};
+ghost use Rattle.std.specs.Prelude.{◌≡◌, ℕ, List, Option, Some};
+ghost use Rattle.checking.specs.Cases.{link_at};
 ghost use Rattle.reading.specs.Items.{loss_at, row_at, damage_at, act_at};
 
-use checking::mark_at;
-use field::{Act, Damage, Loss, Row};
+use checking::{link_at, mark_at};
+use field::{Act, Damage, Link, Loss, Row};
 use numbering::NumberKind;
-use records::{Kind, byte, four_bytes, is_kind, two_bytes};
+use records::{Kind, Record};
 
-pub fn loss_at(file: &[u8], k: usize) -> Loss
-    ensures { result ≡ loss_at file.now k }
+// What a record can be read as, or not where its number is none of the kind.
+pub trait FromRecord: Copy {
+    ghost read: { List ℕ → ℕ → Option Self };
+
+    fn from_record(here: Record) -> Option<Self>
+        ensures { result ≡ read here.entry.file.now here.entry.place };
+}
+
+impl FromRecord for Link {
+    ghost read = { λ file k. Some (link_at file k) };
+
+    fn from_record(here: Record) -> Option<Link> {
+        Some(link_at(here))
+    }
+}
+
+pub fn loss_at(here: Record) -> Loss
+    ensures { result ≡ loss_at here.entry.file.now here.entry.place }
 {
     Loss {
-        from: byte(file, k, 1),
-        to: byte(file, k, 2),
-        instant: four_bytes(file, k, 4),
+        from: here.byte(1),
+        to: here.byte(2),
+        instant: here.four_bytes(4),
     }
 }
 
-// A sensor's row, or none where the number is none of the kind.
-pub fn row_at<K: NumberKind>(file: &[u8], k: usize) -> Option<Row<K>>
-    ensures { result ≡ row_at K.NumberKind.of file.now k }
-{
-    let held = K::of_value(four_bytes(file, k, 8))?;
-    Some(Row {
-        timer: two_bytes(file, k, 4),
-        held,
-        mark: mark_at(file, k),
-        outgoing: None,
-    })
-}
+impl FromRecord for Loss {
+    ghost read = { λ file k. Some (loss_at file k) };
 
-fn damage_at<K: NumberKind>(file: &[u8], k: usize) -> Option<Damage<K>>
-    ensures { result ≡ damage_at K.NumberKind.of file.now k }
-{
-    let held = K::of_value(four_bytes(file, k, 8))?;
-    Some(Damage {
-        sensor: byte(file, k, 1),
-        timer: two_bytes(file, k, 4),
-        mark: mark_at(file, k),
-        held,
-    })
-}
-
-// A play or a damage, or none where the number is none of the kind.
-pub fn act_at<K: NumberKind>(file: &[u8], k: usize) -> Option<Act<K>>
-    ensures { result ≡ act_at K.NumberKind.of file.now k }
-{
-    if is_kind(file, k, Kind::Play) {
-        return Some(Act::Play(four_bytes(file, k, 4)));
+    fn from_record(here: Record) -> Option<Loss> {
+        Some(loss_at(here))
     }
-    let damage = damage_at(file, k)?;
-    Some(Act::Damage(damage))
+}
+
+impl<K: NumberKind> FromRecord for Row<K> {
+    ghost read = { row_at K.NumberKind.of };
+
+    fn from_record(here: Record) -> Option<Row<K>> {
+        let held = K::of_value(here.four_bytes(8))?;
+        Some(Row {
+            timer: here.two_bytes(4),
+            held,
+            mark: mark_at(here),
+            outgoing: None,
+        })
+    }
+}
+
+impl<K: NumberKind> FromRecord for Damage<K> {
+    ghost read = { damage_at K.NumberKind.of };
+
+    fn from_record(here: Record) -> Option<Damage<K>> {
+        let held = K::of_value(here.four_bytes(8))?;
+        Some(Damage {
+            sensor: here.byte(1),
+            timer: here.two_bytes(4),
+            mark: mark_at(here),
+            held,
+        })
+    }
+}
+
+// Past the losses a sensor's record is a damage.
+impl<K: NumberKind> FromRecord for Act<K> {
+    ghost read = { act_at K.NumberKind.of };
+
+    fn from_record(here: Record) -> Option<Act<K>> {
+        if here.is(Kind::Play) {
+            return Some(Act::Play(here.four_bytes(4)));
+        }
+        let damage = Damage::from_record(here)?;
+        Some(Act::Damage(damage))
+    }
 }

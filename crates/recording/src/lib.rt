@@ -1,27 +1,27 @@
 // Records of 12 bytes, as a file has them.
 #![tactic(auto)]
 
-ghost use Rattle.std.specs.Prelude.{◌≡◌};
-ghost use Rattle.recording.specs.Records.{mark_byte, head_record, sensor_record, link_record, middle_record, loss_record, play_record, row_record, act_record};
+ghost use Rattle.std.specs.Prelude.{◌≡◌, ℕ, List};
+ghost use Rattle.page.specs.Pages.{joined};
+ghost use Rattle.recording.specs.Records.{mark_byte, head_record, sensor_record, link_record, middle_record, loss_record, row_record, act_record};
 
 use field::{Act, Link, Loss, Row, Settings};
 use numbering::NumberKind;
+use page::{Pen, Text};
 
 fn mark_byte(mark: Option<u8>) -> u8
     ensures { result ≡ mark_byte mark }
 {
-    match mark {
-        Some(hop) => hop,
-        None => 255,
-    }
+    mark.unwrap_or(255)
 }
 
 // The first record of a file.
+#[tactic(auto, using(crate::proofs::BigEndian::two_bytes, crate::proofs::BigEndian::four_bytes))]
 pub fn head_record(code: u8, smax: u8, settings: Settings) -> [u8; 12]
     ensures { result ≡ head_record code smax settings }
 {
-    let f = settings.f;
-    let seed = settings.seed;
+    let f = settings.f.to_be_bytes();
+    let seed = settings.seed.to_be_bytes();
     [
         b'F',
         code,
@@ -29,90 +29,105 @@ pub fn head_record(code: u8, smax: u8, settings: Settings) -> [u8; 12]
         settings.hmax,
         settings.tmax,
         smax,
-        (f / 256) as u8,
-        (f % 256) as u8,
-        (seed / 65536 / 256) as u8,
-        (seed / 65536 % 256) as u8,
-        (seed % 65536 / 256) as u8,
-        (seed % 65536 % 256) as u8,
+        f[0],
+        f[1],
+        seed[0],
+        seed[1],
+        seed[2],
+        seed[3],
     ]
 }
 
+#[tactic(auto, using(crate::proofs::BigEndian::two_bytes, crate::proofs::BigEndian::four_bytes))]
 fn sensor_record(sensor: u8, mark: Option<u8>, timer: u16, value: u32) -> [u8; 12]
     ensures { result ≡ sensor_record sensor mark timer value }
 {
+    let timer = timer.to_be_bytes();
+    let value = value.to_be_bytes();
     [
         b'S',
         sensor,
         mark_byte(mark),
         0,
-        (timer / 256) as u8,
-        (timer % 256) as u8,
+        timer[0],
+        timer[1],
         0,
         0,
-        (value / 65536 / 256) as u8,
-        (value / 65536 % 256) as u8,
-        (value % 65536 / 256) as u8,
-        (value % 65536 % 256) as u8,
+        value[0],
+        value[1],
+        value[2],
+        value[3],
     ]
-}
-
-// A sensor's row.
-pub fn row_record<K: NumberKind>(sensor: u8, row: Row<K>) -> [u8; 12]
-    ensures { result ≡ row_record K.NumberKind.worth sensor row }
-{
-    sensor_record(sensor, row.mark, row.timer, row.held.value())
-}
-
-pub fn link_record(link: Link) -> [u8; 12]
-    ensures { result ≡ link_record link }
-{
-    [b'L', link.from, link.to, link.label, 0, 0, 0, 0, 0, 0, 0, 0]
 }
 
 // A letter, two bytes, and a number of four in the middle.
 fn middle_record(letter: u8, first: u8, second: u8, number: u32) -> [u8; 12]
     ensures { result ≡ middle_record letter first second number }
 {
+    let number = number.to_be_bytes();
     [
-        letter,
-        first,
-        second,
-        0,
-        (number / 65536 / 256) as u8,
-        (number / 65536 % 256) as u8,
-        (number % 65536 / 256) as u8,
-        (number % 65536 % 256) as u8,
-        0,
-        0,
-        0,
-        0,
+        letter, first, second, 0, number[0], number[1], number[2], number[3], 0, 0, 0, 0,
     ]
 }
 
-pub fn loss_record(loss: Loss) -> [u8; 12]
-    ensures { result ≡ loss_record loss }
+// A row. It does not tell its sensor, so it is no `Recorded`.
+pub fn row_record<K: NumberKind>(sensor: u8, row: Row<K>) -> [u8; 12]
+    ensures { result ≡ row_record K.NumberKind.worth sensor row }
 {
-    middle_record(b'X', loss.from, loss.to, loss.instant)
+    sensor_record(sensor, row.mark, row.timer, row.held.value())
 }
 
-fn play_record(budget: u32) -> [u8; 12]
-    ensures { result ≡ play_record budget }
-{
-    middle_record(b'P', 0, 0, budget)
+// What has a record of its own, wherever it stands.
+pub trait Recorded: Copy {
+    ghost bytes: { Self → List ℕ };
+
+    fn record(self) -> [u8; 12]
+        ensures { result ≡ bytes self };
+}
+
+impl Recorded for Link {
+    ghost bytes = { link_record };
+
+    fn record(self) -> [u8; 12] {
+        [b'L', self.from, self.to, self.label, 0, 0, 0, 0, 0, 0, 0, 0]
+    }
+}
+
+impl Recorded for Loss {
+    ghost bytes = { loss_record };
+
+    fn record(self) -> [u8; 12] {
+        middle_record(b'X', self.from, self.to, self.instant)
+    }
 }
 
 // A play or a damage.
-pub fn act_record<K: NumberKind>(act: Act<K>) -> [u8; 12]
-    ensures { result ≡ act_record K.NumberKind.worth act }
-{
-    match act {
-        Act::Play(budget) => play_record(budget),
-        Act::Damage(damage) => sensor_record(
-            damage.sensor,
-            damage.mark,
-            damage.timer,
-            damage.held.value(),
-        ),
+impl<K: NumberKind> Recorded for Act<K> {
+    ghost bytes = { act_record K.NumberKind.worth };
+
+    fn record(self) -> [u8; 12] {
+        match self {
+            Act::Play(budget) => middle_record(b'P', 0, 0, budget),
+            Act::Damage(damage) => sensor_record(
+                damage.sensor,
+                damage.mark,
+                damage.timer,
+                damage.held.value(),
+            ),
+        }
+    }
+}
+
+// Items as their records, one behind another.
+#[derive(Drop)]
+pub struct Records<'a, R>(pub &'a [R]);
+
+impl<'a, R: Recorded> Text for Records<'a, R> {
+    ghost text = { λ s. joined (λ place. R.Recorded.bytes) 0 s.0.now };
+
+    fn put(&self, pen: &mut Pen) {
+        for item in self.0 {
+            pen.bytes(&item.record());
+        }
     }
 }

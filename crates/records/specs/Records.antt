@@ -1,7 +1,7 @@
 -- A file as a row of records of 12 bytes. Assumes nothing.
 use Rattle.std.specs.Prelude.{ℕ, ◌+◌, ◌*◌, ◌/◌, Bool, List, length, ◌==◌, slice_index}
-use Rattle.records.specs.declared.Kind.{Kind}
-use Rattle.records.specs.declared.Kind.TheVariants.{Field, Sensor, Link, Loss, Play}
+use Rattle.records.specs.declared.kind.Kind.{Kind}
+use Rattle.records.specs.Kinds.{letter}
 
 -- how many whole records a file has
 abbrev pub records : List ℕ → ℕ
@@ -17,14 +17,6 @@ two_bytes file k at = 256 * byte file k at + byte file k (at + 1)
 
 abbrev pub four_bytes : List ℕ → ℕ → ℕ → ℕ
 four_bytes file k at = 65536 * two_bytes file k at + two_bytes file k (at + 2)
-
--- the kind byte is a letter
-abbrev pub letter : Kind → ℕ
-letter Field = 70
-letter Sensor = 83
-letter Link = 76
-letter Loss = 88
-letter Play = 80
 
 abbrev pub is_kind : List ℕ → ℕ → Kind → Bool
 is_kind file k kind = byte file k 0 == letter kind

@@ -6,6 +6,8 @@ ghost use Rattle.refusal.specs.Refusals.{tells, record_told, field_told, run_tol
 ghost use Rattle.refusal.specs.declared.FieldFault.TheVariants.{Record};
 ghost use Rattle.refusal.specs.declared.RunFault.TheVariants.{Field};
 
+mod causes;
+
 // Where a case is looked for: in the records of a file, in a field, or in a run.
 #[derive(Clone, Copy, PartialEq, Eq, Debug)]
 pub enum Layer {

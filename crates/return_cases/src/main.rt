@@ -1,39 +1,25 @@
 // Loads each file that standard input names, and writes it back: says whether the bytes are the same.
 #![tactic(auto)]
 
-use field::{Act, Link, Loss, Row};
-use filed::Filed;
-use loading::{FileNumbering, Loaded, load};
+use field::{Act, Link, Loss, Row, Rules};
+use filed::{FileNumbering, Filed};
+use loading::{Loaded, load};
 use numbering::NumberKind;
-use records::byte;
+use records::Record;
 use refusal::RunFault;
 use std::{fs, io};
+use vetting::Draft;
 use writing::{write_acts, write_field};
 
-// The bytes that the loaded field and its acts are written as.
+// The bytes that a draft and its acts are written as.
 fn written<N: Filed>(
-    numbering: &N,
-    loaded: Loaded,
-    rows: &[Row<N::Number>],
-    links: &[Link],
-    losses: &[Loss],
+    draft: &Draft<N>,
     acts: &[Act<N::Number>],
     page: &mut [u8],
 ) -> Result<usize, RunFault> {
-    let counts = loaded.counts;
-    let settings = loaded.settings;
-    let (Some(links), Some(losses), Some(acts)) = (
-        links.get(..counts.links),
-        losses.get(..counts.losses),
-        acts.get(..counts.acts),
-    ) else {
-        return Err(RunFault::ShortBuffer);
-    };
-    let field = write_field(numbering, settings, rows, links, losses, page)?;
-    let Some(rest) = page.get_mut(field..) else {
-        return Err(RunFault::NoRoom);
-    };
-    let more = write_acts(numbering, settings, acts, rest)?;
+    let field = write_field(draft, page)?;
+    let rest = page.get_mut(field..).ok_or(RunFault::NoRoom)?;
+    let more = write_acts(&draft.rules, acts, rest)?;
     Ok(field.saturating_add(more))
 }
 
@@ -67,31 +53,37 @@ fn comes_back<N: Filed>(rt: &HostRuntime, numbering: &N, file: &[u8]) -> io::Res
     let loaded = load(
         numbering,
         file,
-        rows.as_mut_slice(),
-        links.as_mut_slice(),
-        losses.as_mut_slice(),
-        acts.as_mut_slice(),
+        &mut rows,
+        &mut links,
+        &mut losses,
+        &mut acts,
     );
-    let Ok(loaded) = loaded else {
+    let Ok(Loaded { settings, counts }) = loaded else {
         return Ok(false);
     };
-    let size = written(
-        numbering,
-        loaded,
-        rows.as_slice(),
-        links.as_slice(),
-        losses.as_slice(),
-        acts.as_slice(),
-        page.as_mut_slice(),
-    );
-    let Ok(size) = size else {
+    let (Some(links), Some(losses), Some(acts)) = (
+        links.get(..counts.links),
+        losses.get(..counts.losses),
+        acts.get(..counts.acts),
+    ) else {
         return Ok(false);
     };
-    Ok(page.get(..size) == Some(file))
+    let draft = Draft {
+        rules: Rules {
+            numbering,
+            settings,
+        },
+        rows: &rows,
+        links,
+        losses,
+    };
+    let size = written(&draft, acts, &mut page);
+    Ok(size.is_ok_and(|size| page.get(..size) == Some(file)))
 }
 
 fn returns(rt: &HostRuntime, file: &[u8]) -> io::Result<bool> {
-    let Some(numbering) = FileNumbering::new(byte(file, 0, 1), byte(file, 0, 5)) else {
+    let head = Record { file, place: 0 };
+    let Some(numbering) = FileNumbering::new(head.byte(1), head.byte(5)) else {
         return Ok(false);
     };
     match numbering {
@@ -104,7 +96,7 @@ fn returns(rt: &HostRuntime, file: &[u8]) -> io::Result<bool> {
 
 fn judge(rt: &HostRuntime, name: &str) -> io::Result<()> {
     let file = fs::read(rt, name)?;
-    if returns(rt, file.as_slice())? {
+    if returns(rt, &file)? {
         println!(rt; "{name} comes back")
     } else {
         println!(rt; "{name} comes back CHANGED")
@@ -114,7 +106,7 @@ fn judge(rt: &HostRuntime, name: &str) -> io::Result<()> {
 fn main(rt: HostRuntime) -> io::Result<()> {
     for name in rt.lines(rt.alloc()) {
         let name = name?;
-        judge(&rt, name.as_str())?;
+        judge(&rt, &name)?;
     }
     Ok(())
 }

@@ -1,6 +1,6 @@
 -- What the lowest place is. Assumes nothing.
-use Rattle.std.proofs.Common.{◌≡◌, ℕ, zero, suc, ◌+◌, ◌-◌, ◌<◌, Bool, true, false, Some, None, Option, sym, refl, subst, suc-add, zero-add, add-one, arith, below_more}
-use Rattle.search.specs.Lowest.{lowest, IsLowest}
+use Rattle.std.proofs.Common.{◌≡◌, ℕ, zero, suc, ◌+◌, ◌-◌, ◌<◌, Bool, true, false, Some, None, Option, is_ok, sym, refl, subst, suc-add, zero-add, add-one, arith, below_more}
+use Rattle.search.specs.Lowest.{lowest, IsLowest, looked_for}
 
 module _ (holds : ℕ → Bool) where
   pub lowest_zero : lowest holds 0 ≡ None
@@ -30,6 +30,15 @@ module _ (holds : ℕ → Bool) where
       let rest : n - suc i + suc i ≡ n = omega arith in
       subst (λ (k : ℕ). lowest holds k ≡ Some i) rest (found_stays i (n - suc i) (one_more_found i none here))
 
+  none_lowest : (n : ℕ) → ((k : ℕ) → k < n → holds k ≡ false) → lowest holds n ≡ None
+  none_lowest zero nowhere = lowest_zero
+  none_lowest (suc n) nowhere = rw (sym (add-one n)) (lowest_more n (none_lowest n (λ k h. nowhere k (omega arith))) (nowhere n (omega arith)))
+
+  -- no other place is the lowest
+  pub lowest_of : (n : ℕ) (o : Option ℕ) → IsLowest holds n o → o ≡ lowest holds n
+  lowest_of n None nowhere = sym (none_lowest n nowhere)
+  lowest_of n (Some place) is = sym (lowest_first place n is.0 (none_lowest place is.2) is.1)
+
   last_or_before : (n k : ℕ) → k < suc n → ((j : ℕ) → j < n → holds j ≡ false) → holds n ≡ false → holds k ≡ false
   last_or_before n k h below here = below_more (λ j. holds j ≡ false) n below here k (omega arith)
 
@@ -47,3 +56,12 @@ module _ (holds : ℕ → Bool) where
   -- what the definition gives is the lowest place
   pub is_lowest : (n : ℕ) (o : Option ℕ) → o ≡ lowest holds n → IsLowest holds n o
   is_lowest n o e = subst (IsLowest holds n) (sym e) (lowest_is n)
+
+-- a case that is looked for and not found holds nowhere
+pub nowhere : {Fault : Type 0} (fault : ℕ → Fault) (n : ℕ) (holds : ℕ → Bool) → is_ok (looked_for fault n holds) ≡ true → (k : ℕ) → k < n → holds k ≡ false
+unfolding looked_for
+nowhere fault n holds passes = by (lowest holds n) refl
+  where
+    by : (o : Option ℕ) → o ≡ lowest holds n → (k : ℕ) → k < n → holds k ≡ false
+    by None e = is_lowest holds n None e
+    by (Some place) e = absurd cc

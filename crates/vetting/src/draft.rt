@@ -1,115 +1,136 @@
-// Each case looked for everywhere before the next.
+// A field in memory, and each case in which it is none, looked for everywhere before the next.
 ghost use Rattle.std.specs.Prelude.{◌≡◌};
-ghost use Rattle.vetting.specs.Vetted.{draft_places, draft_at, draft_fault, draft_case, drafts_vetted, vetted};
+ghost use Rattle.vetting.specs.Vetted.{linked, no_sensor, bad_link, too_many, bad_row, no_link, ends_vetted, links_vetted, count_vetted, rows_vetted, losses_vetted, drafts_vetted, vetted};
 
-use crate::cases::DraftCase;
-use crate::items::{bad_link, bad_row, no_link, no_sensor, too_many};
-use field::{Link, Loss, Row, Settings};
+use field::{Ends, Link, Loss, Row, Rules, Stage};
 use numbering::Numbering;
 use refusal::{FieldFault, RunFault};
-use search::{Case, pass};
+use search::{lowest, pass};
 
+// What is to be written as a field.
 #[derive(Drop)]
-struct OfDraft<'n, 'r, 'l, 'x, N: Numbering> {
-    numbering: &'n N,
-    settings: Settings,
-    rows: &'r [Row<N::Number>],
-    links: &'l [Link],
-    losses: &'x [Loss],
-    case: DraftCase,
+pub struct Draft<'n, 'r, 'l, 'x, N: Numbering> {
+    pub rules: Rules<'n, N>,
+    pub rows: &'r [Row<N::Number>],
+    pub links: &'l [Link],
+    pub losses: &'x [Loss],
 }
 
-impl<'n, 'r, 'l, 'x, N: Numbering> Case for OfDraft<'n, 'r, 'l, 'x, N> {
-    type Fault = FieldFault;
-
-    ghost count = { λ s. draft_places (N.Numbering.meaning s.numbering.now) s.settings s.rows.now s.links.now s.losses.now s.case };
-
-    ghost at = { λ s. draft_at (N.Numbering.meaning s.numbering.now) s.settings s.rows.now s.links.now s.losses.now s.case };
-
-    ghost told = { λ s. draft_fault s.case };
-
-    fn places(&self) -> usize {
-        match self.case {
-            DraftCase::Ends => self.links.len().max(self.losses.len()),
-            DraftCase::Links => self.links.len(),
-            DraftCase::Count => 1025,
-            DraftCase::Rows => usize::from(self.settings.n),
-            DraftCase::Losses => self.losses.len(),
-        }
-    }
-
-    fn holds(&self, place: usize) -> bool {
-        match self.case {
-            DraftCase::Ends => no_sensor(self.settings.n, self.links, self.losses, place),
-            DraftCase::Links => bad_link(self.links, place),
-            DraftCase::Count => too_many(self.links, self.losses, place),
-            DraftCase::Rows => bad_row(self.numbering, self.settings, self.rows, place),
-            DraftCase::Losses => no_link(self.links, self.losses, place),
-        }
-    }
-
-    fn fault(&self, place: usize) -> FieldFault {
-        match self.case {
-            DraftCase::Ends => FieldFault::NoSensor(place),
-            DraftCase::Links => FieldFault::BadLink(place),
-            DraftCase::Count => FieldFault::TooMany(place),
-            DraftCase::Rows => FieldFault::BadRow(place),
-            DraftCase::Losses => FieldFault::NoLink(place),
-        }
-    }
-}
-
-#[tactic(auto, unfolding(crate::specs::Vetted::draft_case))]
-fn pass_case<N: Numbering>(
-    numbering: &N,
-    settings: Settings,
-    rows: &[Row<N::Number>],
-    links: &[Link],
-    losses: &[Loss],
-    case: DraftCase,
-) -> Result<(), FieldFault>
-    ensures { result ≡ draft_case (N.Numbering.meaning numbering.now) settings rows.now links.now losses.now case }
+// Does one of the first links join these ends?
+fn linked(links: &[Link], count: usize, ends: Ends) -> bool
+    ensures { result ≡ linked links.now count ends.from ends.to }
 {
-    pass(&OfDraft {
-        numbering,
-        settings,
-        rows,
-        links,
-        losses,
-        case,
+    lowest(count, |place| {
+        links.get(place).is_some_and(|link| link.joins(ends))
     })
+    .is_some()
 }
 
-fn vet_field<N: Numbering>(
-    numbering: &N,
-    settings: Settings,
-    rows: &[Row<N::Number>],
-    links: &[Link],
-    losses: &[Loss],
-) -> Result<(), FieldFault>
-    ensures { result ≡ drafts_vetted (N.Numbering.meaning numbering.now) settings rows.now links.now losses.now }
-{
-    pass_case(numbering, settings, rows, links, losses, DraftCase::Ends)?;
-    pass_case(numbering, settings, rows, links, losses, DraftCase::Links)?;
-    pass_case(numbering, settings, rows, links, losses, DraftCase::Count)?;
-    pass_case(numbering, settings, rows, links, losses, DraftCase::Rows)?;
-    pass_case(numbering, settings, rows, links, losses, DraftCase::Losses)
-}
-
-// Whether rows, links and losses are a field: nothing, or the first case that holds, at its lowest
-// place.
-pub fn vet<N: Numbering>(
-    numbering: &N,
-    settings: Settings,
-    rows: &[Row<N::Number>],
-    links: &[Link],
-    losses: &[Loss],
-) -> Result<(), RunFault>
-    ensures { result ≡ vetted (N.Numbering.meaning numbering.now) settings rows.now links.now losses.now }
-{
-    vet_field(numbering, settings, rows, links, losses)?;
-    if rows.len() < usize::from(settings.n) {
-        return Err(RunFault::ShortBuffer);
+impl<N: Numbering> Draft<'_, '_, '_, '_, N> {
+    fn no_sensor(&self, place: usize) -> bool
+        ensures { result ≡ no_sensor self.now.rules.settings.n self.now.links.now self.now.losses.now place }
+    {
+        let n = self.rules.settings.n;
+        let of_link = self
+            .links
+            .get(place)
+            .is_some_and(|link| !Ends::from(*link).are_within(n));
+        let of_loss = self
+            .losses
+            .get(place)
+            .is_some_and(|loss| !Ends::from(*loss).are_within(n));
+        of_link || of_loss
     }
-    Ok(())
+
+    fn bad_link(&self, place: usize) -> bool
+        ensures { result ≡ bad_link self.now.links.now place }
+    {
+        self.links.get(place).is_some_and(|link| !link.keeps()
+            || linked(self.links, place, Ends::from(*link)))
+    }
+
+    fn too_many(&self, place: usize) -> bool
+        ensures { result ≡ too_many self.now.links.now self.now.losses.now place }
+    {
+        place == 1024 && self.links.len() > 1024 || place == 256 && self.losses.len() > 256
+    }
+
+    fn bad_row(&self, place: usize) -> bool
+        ensures { result ≡ bad_row (N.Numbering.meaning self.now.rules.numbering.now) self.now.rules.settings self.now.rows.now place }
+    {
+        match self.rows.get(place) {
+            Some(row) => !self.rules.row_keeps(Stage::Between, place, *row),
+            None => false,
+        }
+    }
+
+    fn no_link(&self, place: usize) -> bool
+        ensures { result ≡ no_link self.now.links.now self.now.losses.now place }
+    {
+        self.losses.get(place).is_some_and(|loss| {
+            let ends = Ends::from(*loss);
+            !linked(self.links, self.links.len(), ends)
+        })
+    }
+
+    fn vet_ends(&self) -> Result<(), FieldFault>
+        ensures { result ≡ ends_vetted self.now.rules.settings self.now.links.now self.now.losses.now }
+    {
+        let places = self.links.len().max(self.losses.len());
+        pass(places, |place| self.no_sensor(place), FieldFault::NoSensor)
+    }
+
+    fn vet_links(&self) -> Result<(), FieldFault>
+        ensures { result ≡ links_vetted self.now.links.now }
+    {
+        pass(
+            self.links.len(),
+            |place| self.bad_link(place),
+            FieldFault::BadLink,
+        )
+    }
+
+    fn vet_count(&self) -> Result<(), FieldFault>
+        ensures { result ≡ count_vetted self.now.links.now self.now.losses.now }
+    {
+        pass(1025, |place| self.too_many(place), FieldFault::TooMany)
+    }
+
+    fn vet_rows(&self) -> Result<(), FieldFault>
+        ensures { result ≡ rows_vetted (N.Numbering.meaning self.now.rules.numbering.now) self.now.rules.settings self.now.rows.now }
+    {
+        let places = usize::from(self.rules.settings.n);
+        pass(places, |place| self.bad_row(place), FieldFault::BadRow)
+    }
+
+    fn vet_losses(&self) -> Result<(), FieldFault>
+        ensures { result ≡ losses_vetted self.now.links.now self.now.losses.now }
+    {
+        pass(
+            self.losses.len(),
+            |place| self.no_link(place),
+            FieldFault::NoLink,
+        )
+    }
+
+    fn vet_field(&self) -> Result<(), FieldFault>
+        ensures { result ≡ drafts_vetted (N.Numbering.meaning self.now.rules.numbering.now) self.now.rules.settings self.now.rows.now self.now.links.now self.now.losses.now }
+    {
+        self.vet_ends()?;
+        self.vet_links()?;
+        self.vet_count()?;
+        self.vet_rows()?;
+        self.vet_losses()
+    }
+
+    // Whether this is a field: nothing, or the first case that holds, at its lowest place.
+    pub fn vet(&self) -> Result<(), RunFault>
+        ensures { result ≡ vetted (N.Numbering.meaning self.now.rules.numbering.now) self.now.rules.settings self.now.rows.now self.now.links.now self.now.losses.now }
+    {
+        self.vet_field()?;
+        if self.rows.len() < usize::from(self.rules.settings.n) {
+            return Err(RunFault::ShortBuffer);
+        }
+        Ok(())
+    }
 }

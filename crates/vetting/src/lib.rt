@@ -2,9 +2,7 @@
 #![tactic(auto)]
 
 mod acts;
-mod cases;
 mod draft;
-mod items;
 
 pub use acts::vet_acts;
-pub use draft::vet;
+pub use draft::Draft;

@@ -1,6 +1,6 @@
 -- A numbering with a window: numbers only rise, and a copy far behind the held number passes for new again. Assumes nothing.
+use Rattle.std.specs.Bool.{then_some}
 use Rattle.std.specs.Prelude.{ℕ, ◌+◌, ◌-◌, ◌*◌, Bool, cond, ◌||◌, nat_lt}
-use Rattle.numbering.specs.Kinds.{given}
 use Rattle.numbering.specs.Meaning.{Meaning}
 use Rattle.windowed.specs.declared.serial.Serial.{Serial}
 
@@ -16,7 +16,7 @@ window_fresh window copy held = nat_lt held.value copy.value || nat_lt window (h
 
 -- Numbers have 16 bits, the next is one more, and none follows the last.
 abbrev pub windowed : ℕ → Meaning Serial
-windowed window = record { lawful = fits; next = λ s. given (nat_lt s.value 65535) (serial (s.value + 1)); fresh = window_fresh window }
+windowed window = record { lawful = fits; next = λ s. then_some (nat_lt s.value 65535) (serial (s.value + 1)); fresh = window_fresh window }
 
 -- A sensor up to two windows ahead waits until the base comes by; one farther ahead follows at once.
 abbrev pub window_catch_up : ℕ → Serial → Serial → ℕ

@@ -1,5 +1,5 @@
 // A number kind of one's own: 16 bits.
-ghost use Rattle.numbering.specs.Kinds.{given};
+ghost use Rattle.std.specs.Bool.{then_some};
 ghost use Rattle.std.specs.Prelude.{nat_lt};
 ghost use Rattle.windowed.specs.Window.{serial, fits};
 ghost use Rattle.std.proofs.Common.{rules};
@@ -16,7 +16,7 @@ impl NumberKind for Serial {
 
     ghost worth = { λ x. x.value };
 
-    ghost of = { λ v. given (nat_lt v 65536) (serial v) };
+    ghost of = { λ v. then_some (nat_lt v 65536) (serial v) };
 
     ghost there = { Prim.search rules };
 
@@ -27,9 +27,7 @@ impl NumberKind for Serial {
     }
 
     fn of_value(value: u32) -> Option<Serial> {
-        match u16::try_from(value) {
-            Ok(value) => Some(Serial { value }),
-            Err(_) => None,
-        }
+        let value = u16::try_from(value).ok()?;
+        Some(Serial { value })
     }
 }

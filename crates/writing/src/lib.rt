@@ -3,7 +3,6 @@
 
 mod acts_text;
 mod field_text;
-mod in_turn;
 
 pub use acts_text::write_acts;
 pub use field_text::write_field;

@@ -1,8 +1,6 @@
-use Rattle.std.proofs.Common.{arith}
+use Rattle.std.proofs.Common.{arith, ◌∙◌, rules}
 use Rattle.page.proofs.Wrotes.{wrote_front}
 use Rattle.page.proofs.write.Goals as goal
 
-pub returns : goal.returns
-returns g c =
-    let fits = wrote_front c.put-size.ensures (omega arith) (omega arith) c.put.ensures (omega arith) in
-    record { value = fits.0; page = fits.1 }
+pub returns-clause-page : goal.returns-clause-page
+returns-clause-page g c = search rules ∙ wrote_front (omega arith) c.put.ensures (omega arith)

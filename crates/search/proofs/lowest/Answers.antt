@@ -1,24 +1,18 @@
-use Rattle.std.proofs.Common.{◌≡◌, Some, None, sym, arith, rules}
-use Rattle.search.specs.Lowest.{lowest}
-use Rattle.search.proofs.Places.{lowest_zero, lowest_more, lowest_first, is_lowest}
+use Rattle.std.proofs.Common.{◌≡◌, ℕ, ◌<◌, ◌≤◌, Bool, true, false, Some, None, Option, sym, arith, rules}
+use Rattle.std.specs.Option.{MatchOption}
+use Rattle.std.proofs.lemmas.Iterator.{first_from_Range}
+use Rattle.search.specs.Lowest.{IsLowest}
+use Rattle.search.proofs.Places.{lowest_of}
 use Rattle.search.proofs.lowest.Goals as goal
 
-pub loop-place-init : goal.loop-place-init
-loop-place-init g c = search (rules, lowest_zero (g.C.Case.at c.args.case.now))
+-- what `find` says of the range, where its tests are `at`
+found : (at : ℕ → Bool) (n : ℕ) (o : Option ℕ) → MatchOption o ((k : ℕ) → 0 ≤ k → k < n → k < n → at k ≡ false) (λ i. (0 ≤ i) × (i < n) × (i < n → at i ≡ true) × ((k : ℕ) → 0 ≤ k → k < i → k < n → at k ≡ false)) → IsLowest at n o
+found at n None nowhere = λ k h. nowhere k (omega arith) h h
+found at n (Some place) is = (is.1, is.2 is.1, λ k h. is.3 k (omega arith) h (omega (arith, is.1)))
 
-pub returns-then-holds : goal.returns-then-holds
-returns-then-holds g c =
-    let holds = g.C.Case.at c.args.case.now in
-    let n = g.C.Case.count c.args.case.now in
-    let found : Some c.loop-place.place ≡ lowest holds n = sym (lowest_first holds c.loop-place.place n (omega arith) (search rules) (search rules)) in
-    record { value = found; lowest = is_lowest holds n (Some c.loop-place.place) found }
+pub returns-clause-lowest : goal.returns-clause-lowest
+returns-clause-lowest g c at answers =
+    found at c.args.places c.find.result (first_from_Range _ _ _ _ (λ k. k < c.args.places → at k ≡ true) (λ k. k < c.args.places → at k ≡ false) c.find.ensures.ran (λ x q k h. sym (answers x true h (search rules))) (λ x q k. (search rules, λ h. sym (answers x false h (search rules)))))
 
-pub loop-place-preserved : goal.loop-place-preserved
-loop-place-preserved g c = lowest_more (g.C.Case.at c.args.case.now) c.loop-place.place (search rules) (search rules)
-
-pub returns : goal.returns
-returns g c =
-    let holds = g.C.Case.at c.args.case.now in
-    let n = g.C.Case.count c.args.case.now in
-    let none : None ≡ lowest holds n = (let all : c.loop-place.place ≡ n = omega arith in rw all at (sym c.loop-place.invariant)) in
-    record { value = none; lowest = is_lowest holds n None none }
+pub returns-clause-value : goal.returns-clause-value
+returns-clause-value g c at answers = lowest_of at c.args.places c.find.result (returns-clause-lowest g c at answers)

@@ -1,18 +1,12 @@
-use Rattle.std.proofs.Common.{◌≡◌, ap, arith}
-use Rattle.page.proofs.Wrotes.{wrote_as}
-use Rattle.records.specs.Records.{records}
+use Rattle.std.proofs.Common.{add-one}
+use Rattle.page.proofs.Wrotes.{wrote_nothing, wrote_then}
 use Rattle.listing.specs.Lines.{lines}
-use Rattle.listing.proofs.LinesWrote.{none_lined, one_lined}
 use Rattle.listing.proofs.listed.ListingText.put.Goals as goal
 
-pub loop-k-init : goal.loop-k-init
-loop-k-init c = none_lined c.args.self.now.file.now c.args.page.now c.args.at (omega arith)
+pub loop-place-init : goal.loop-place-init
+unfolding lines
+loop-place-init c = wrote_nothing c.args.pen.now
 
-pub loop-k-preserved : goal.loop-k-preserved
-loop-k-preserved c = one_lined c.args.self.now.file.now c.args.page.now c.args.at (omega arith) c.loop-k.invariant c.put_record-behind.ensures
-
-pub returns : goal.returns
-returns c =
-    let file = c.args.self.now.file.now in
-    let all : c.loop-k.k ≡ records file = omega arith in
-    wrote_as (ap (lines file) all) c.loop-k.invariant.so_far
+pub loop-place-preserved : goal.loop-place-preserved
+unfolding lines
+loop-place-preserved c = rw add-one (wrote_then c.loop-place.invariant c.put_record.ensures)

@@ -1,5 +1,6 @@
-use Rattle.listing.proofs.LinesWrote.{Lined}
+use Rattle.page.specs.Pens.{Wrote}
+use Rattle.listing.specs.Lines.{lines}
 use Rattle.listing.proofs.listed.ListingText.put.Given as goal
 
-abbrev pub invariant-loop-k : goal.invariant-loop-k
-invariant-loop-k l = Lined l.self.file.now l.initial.page l.initial.behind l.k l.page l.behind
+abbrev pub invariant-loop-place : goal.invariant-loop-place
+invariant-loop-place l = Wrote l.initial.pen l.pen (lines l.self.file.now l.place)
