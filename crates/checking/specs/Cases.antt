@@ -1,10 +1,11 @@
 -- The cases in which a file is refused: each a test at a place. Assumes nothing.
-use Rattle.std.specs.Prelude.{ℕ, ◌+◌, ◌-◌, ◌%◌, Bool, cond, not, ◌&&◌, ◌||◌, List, length, is_some, Some, None, Ok, Err, Option, Result, ◌==◌, nat_le, nat_lt}
+use Rattle.std.specs.Prelude.{◌≡◌, ◌<◌, ℕ, ◌+◌, ◌-◌, ◌%◌, Bool, cond, not, ◌&&◌, ◌||◌, List, length, is_some, Some, None, Ok, Err, Option, Result, ◌==◌, nat_le, nat_lt}
+use Rattle.records.specs.declared.Record.{Record}
 use Rattle.records.specs.declared.Kind.{Kind}
 use Rattle.records.specs.declared.Kind.TheVariants.{Field, Sensor, Link, Loss, Play}
 use Rattle.records.specs.Records.{records, byte, two_bytes, four_bytes, is_kind}
 use Rattle.refusal.specs.declared.FieldFault.{FieldFault}
-use Rattle.refusal.specs.declared.FieldFault.TheVariants.{Record, OutOfOrder, BadSetting, NoSensor, BadLink, TooMany, BadRow, NoLink}
+use Rattle.refusal.specs.declared.FieldFault.TheVariants.{Record as InRecord, OutOfOrder, BadSetting, NoSensor, BadLink, TooMany, BadRow, NoLink}
 use Rattle.refusal.specs.declared.RecordFault.{RecordFault}
 use Rattle.refusal.specs.declared.RecordFault.TheVariants.{BadLength, UnknownKind, NotZero}
 use Rattle.search.specs.Lowest.{lowest, looked_for}
@@ -143,6 +144,10 @@ abbrev pub then : {F : Type 0} → Result (Unit {0}) F → Result (Unit {0}) F �
 then (Ok t) next = next
 then (Err fault) next = Err fault
 
+-- what is answered of each record of the file, by `answers`, is the value of `at` at its place
+abbrev pub AnswersIn : {A : Type 0} → List ℕ → (Record → A → Type 0) → (ℕ → A) → Type 0
+AnswersIn file answers at = (here : Record) (r : _) → here.file.now ≡ file → here.place < records file → answers here r → r ≡ at here.place
+
 -- each case looked for at each of its places
 abbrev pub length_checked : List ℕ → Result (Unit {0}) RecordFault
 length_checked file = looked_for (λ k. BadLength) 1 (λ k. bad_length file)
@@ -185,7 +190,7 @@ fields_checked file =
 -- the whole check of a file
 abbrev pub in_record : Result (Unit {0}) RecordFault → Result (Unit {0}) FieldFault
 in_record (Ok t) = Ok t
-in_record (Err fault) = Err (Record fault)
+in_record (Err fault) = Err (InRecord fault)
 
 abbrev pub file_checked : List ℕ → Result (Unit {0}) FieldFault
 file_checked file = then (in_record (records_checked file)) (fields_checked file)

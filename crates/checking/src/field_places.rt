@@ -1,6 +1,6 @@
 // The cases of a field, at a place.
 ghost use Rattle.std.specs.Prelude.{◌≡◌, ◌+◌};
-ghost use Rattle.filed.specs.Codes.{code_keeps, lawful_value};
+ghost use Rattle.filed.specs.Codes.{lawful_value};
 ghost use Rattle.checking.specs.Cases.{misplaced, out_of_order, SettingsIn, bad_setting, no_sensor, link_at, linked, bad_link, outnumbers, too_many, mark_at, clock_at, number_at, bad_row, no_link};
 
 use field::{Ends, Limits, Link, Settings};
@@ -50,12 +50,6 @@ pub fn settings_in(file: &[u8]) -> Result<Settings, FieldFault>
     )
 }
 
-fn code_keeps(code: u8, smax: u8) -> bool
-    ensures { result ≡ code_keeps code smax }
-{
-    FileNumbering::new(code, smax).is_some()
-}
-
 // By the code's byte, which may be none of the four: each case is judged for itself.
 fn lawful_value(code: u8, smax: u8, value: u32) -> bool
     ensures { result ≡ lawful_value code smax value }
@@ -71,9 +65,11 @@ pub fn bad_setting(file: &[u8]) -> bool
     ensures { result ≡ bad_setting file.now }
 {
     let head = Record { file, place: 0 };
-    settings_in(file).is_err() || !code_keeps(head.byte(1), head.byte(5))
+    let numbering = FileNumbering::new(head.byte(1), head.byte(5));
+    settings_in(file).is_err() || numbering.is_none()
 }
 
+// No `From`: neither a record nor a link is this crate's.
 pub fn link_at(here: Record) -> Link
     ensures { result ≡ link_at here.entry.file.now here.entry.place }
 {
@@ -92,7 +88,7 @@ pub fn no_sensor(here: Record) -> bool
     pair && !Ends::from(link_at(here)).are_within(n) || here.is(Kind::Sensor) && !(here.byte(1) < n)
 }
 
-// Does one of the first records link these ends?
+// Does one of the first records link these ends? A slice would have to be cut from the bytes first.
 fn linked(file: &[u8], count: usize, ends: Ends) -> bool
     ensures { result ≡ linked file.now count ends.from ends.to }
 {
@@ -124,6 +120,7 @@ pub fn too_many(here: Record) -> bool
     outnumbers(here, Kind::Link, 1024) || outnumbers(here, Kind::Loss, 256)
 }
 
+// No `TryFrom`: a byte and an optional hop are both types of std's.
 pub fn mark_at(here: Record) -> Option<u8>
     ensures { result ≡ mark_at here.entry.file.now here.entry.place }
 {

@@ -1,6 +1,7 @@
 // The cases of records, at a place.
 ghost use Rattle.std.specs.Prelude.{◌≡◌};
-ghost use Rattle.checking.specs.Cases.{bad_length, unknown_kind, zeros, zero_tail, sensor_zeros, link_zeros, loss_zeros, play_zeros, not_zero};
+ghost use Rattle.std.specs.List.{list_all};
+ghost use Rattle.checking.specs.Cases.{bad_length, unknown_kind, zeros, not_zero};
 
 use records::{Kind, Record};
 
@@ -16,50 +17,22 @@ pub fn unknown_kind(here: Record) -> bool
     here.kind().is_err()
 }
 
-fn zeros(here: Record, at: usize) -> bool
-    ensures { result ≡ zeros here.entry.file.now here.entry.place at }
+// Are these bytes of a record zero?
+fn zeros(here: Record, unused: &[usize]) -> bool
+    ensures { result ≡ list_all (zeros here.entry.file.now here.entry.place) unused.now }
 {
-    here.byte(at) == 0
+    unused.iter().all(|at| here.byte(*at) == 0)
 }
 
-fn zero_tail(here: Record) -> bool
-    ensures { result ≡ zero_tail here.entry.file.now here.entry.place }
-{
-    zeros(here, 8) && zeros(here, 9) && zeros(here, 10) && zeros(here, 11)
-}
-
-fn sensor_zeros(here: Record) -> bool
-    ensures { result ≡ sensor_zeros here.entry.file.now here.entry.place }
-{
-    zeros(here, 3) && zeros(here, 6) && zeros(here, 7)
-}
-
-fn link_zeros(here: Record) -> bool
-    ensures { result ≡ link_zeros here.entry.file.now here.entry.place }
-{
-    zeros(here, 4) && zeros(here, 5) && zeros(here, 6) && zeros(here, 7) && zero_tail(here)
-}
-
-fn loss_zeros(here: Record) -> bool
-    ensures { result ≡ loss_zeros here.entry.file.now here.entry.place }
-{
-    zeros(here, 3) && zero_tail(here)
-}
-
-fn play_zeros(here: Record) -> bool
-    ensures { result ≡ play_zeros here.entry.file.now here.entry.place }
-{
-    zeros(here, 1) && zeros(here, 2) && zeros(here, 3) && zero_tail(here)
-}
-
+// Each kind leaves other bytes unused.
 pub fn not_zero(here: Record) -> bool
     ensures { result ≡ not_zero here.entry.file.now here.entry.place }
 {
     match here.kind() {
-        Ok(Kind::Sensor) => !sensor_zeros(here),
-        Ok(Kind::Link) => !link_zeros(here),
-        Ok(Kind::Loss) => !loss_zeros(here),
-        Ok(Kind::Play) => !play_zeros(here),
+        Ok(Kind::Sensor) => !zeros(here, &[3, 6, 7]),
+        Ok(Kind::Link) => !zeros(here, &[4, 5, 6, 7, 8, 9, 10, 11]),
+        Ok(Kind::Loss) => !zeros(here, &[3, 8, 9, 10, 11]),
+        Ok(Kind::Play) => !zeros(here, &[1, 2, 3, 8, 9, 10, 11]),
         Ok(Kind::Field) | Err(_) => false,
     }
 }

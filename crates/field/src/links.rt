@@ -11,6 +11,7 @@ pub struct Ends {
     pub to: u8,
 }
 
+// One for each that has ends: the fields are each one's own.
 impl From<Link> for Ends {
     ghost from_gives = { λ link r. r ≡ ends_of link.from link.to };
 

@@ -21,6 +21,7 @@ impl Settings {
         })
     }
 
+    // One for each setting: a closure that changed the parts would have to name them all the same.
     pub fn with_n(self, n: u8) -> Result<Settings, FieldFault>
         ensures { Made n self.hmax self.tmax self.f self.seed result }
     {

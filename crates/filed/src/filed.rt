@@ -7,10 +7,11 @@ ghost use Rattle.std.proofs.Common.{rules};
 use numbering::{Circular, Differentiated, Free, Linear, Numbering};
 
 // What stands in a file for a numbering without an smax.
-pub const NO_SMAX: u8 = 0;
+const NO_SMAX: u8 = 0;
 
 // A numbering with a code and an smax for files. A numbering of a college's own need not have one,
 // and may have a code of its own: so it is a number, where the four of `FileNumbering` are an enum.
+// The four impls differ by what they say.
 pub trait Filed: Numbering {
     ghost coded: { Self → ℕ };
 

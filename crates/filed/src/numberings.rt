@@ -2,7 +2,7 @@
 ghost use Rattle.std.specs.Prelude.{◌≡◌};
 ghost use Rattle.filed.specs.Numberings.{Coded, code_of, smax_of};
 
-use crate::filed::{Filed, NO_SMAX};
+use crate::filed::Filed;
 use numbering::{Circular, Differentiated, Free, Linear};
 
 #[derive(Clone, Copy)]
@@ -19,8 +19,8 @@ impl FileNumbering {
         ensures { Coded code smax result }
     {
         match (code, smax) {
-            (0, NO_SMAX) => Some(FileNumbering::Free(Free)),
-            (1, NO_SMAX) => Some(FileNumbering::Linear(Linear)),
+            (0, 0) => Some(FileNumbering::Free(Free)),
+            (1, 0) => Some(FileNumbering::Linear(Linear)),
             (2, _) => Some(FileNumbering::Circular(Circular::new(smax)?)),
             (3, _) => Some(FileNumbering::Differentiated(Differentiated::new(smax)?)),
             _ => None,

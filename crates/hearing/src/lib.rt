@@ -68,6 +68,7 @@ pub fn hear_floods<N: Numbering>(
     let mut floods = Vec::new(heap);
     let mut holds = held;
     let mut sent = base;
+    // a chain would have to carry both numbers, and stop where none follows
     for _ in 0..most {
         let Some(number) = numbering.next(sent) else {
             return Ok(floods);

@@ -37,6 +37,7 @@ impl From<fmt::Error> for Complaint {
 }
 
 impl Complaint {
+    // The sentence by itself: what `Display` writes may fail.
     pub fn text(self) -> &'static str
         ensures { result.now ≡ complaint_text self }
     {

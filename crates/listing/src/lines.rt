@@ -19,7 +19,7 @@ fn numbering_name(code: u8) -> &'static str
     }
 }
 
-// The numbers of a file's first record.
+// The numbers of a file's first record, as they stand: `Settings` takes none that break a limit.
 #[derive(Clone, Copy)]
 pub struct Head {
     pub code: u8,
@@ -36,21 +36,21 @@ pub fn put_field(pen: &mut Pen, head: Head)
     ensures { Wrote pen.old pen.new (field_line head.code head.smax head.n head.hmax head.tmax head.f head.seed) }
 {
     pen.line(&[
-        Piece::Words("field "),
-        Piece::Words(numbering_name(head.code)),
-        Piece::Words(" smax "),
-        Piece::Number(u64::from(head.smax)),
-        Piece::Words(" sensors "),
-        Piece::Number(u64::from(head.n)),
-        Piece::Words(" hmax "),
-        Piece::Number(u64::from(head.hmax)),
-        Piece::Words(" tmax "),
-        Piece::Number(u64::from(head.tmax)),
-        Piece::Words(" f "),
-        Piece::Number(u64::from(head.f)),
-        Piece::Words(" seed "),
-        Piece::Number(u64::from(head.seed)),
-        Piece::Words("\n"),
+        "field ".into(),
+        numbering_name(head.code).into(),
+        " smax ".into(),
+        head.smax.into(),
+        " sensors ".into(),
+        head.n.into(),
+        " hmax ".into(),
+        head.hmax.into(),
+        " tmax ".into(),
+        head.tmax.into(),
+        " f ".into(),
+        head.f.into(),
+        " seed ".into(),
+        head.seed.into(),
+        "\n".into(),
     ])
 }
 
@@ -58,26 +58,27 @@ fn mark_piece(mark: Option<u8>) -> Piece<'static>
     ensures { piece_text result ≡ mark_words mark }
 {
     match mark {
-        Some(hop) => Piece::Number(u64::from(hop)),
-        None => Piece::Words("none"),
+        Some(hop) => hop.into(),
+        None => "none".into(),
     }
 }
 
+// Four numbers apart: a row tells no sensor, and a listing has bytes, not numbers of a kind.
 #[tactic(auto, unfolding(crate::specs::Lines::row_line))]
 pub fn put_row(pen: &mut Pen, word: &str, sensor: u8, timer: u16, value: u32, mark: Option<u8>)
     ensures { Wrote pen.old pen.new (row_line word.now sensor timer value mark) }
 {
     pen.line(&[
-        Piece::Words(word),
-        Piece::Words(" "),
-        Piece::Number(u64::from(sensor)),
-        Piece::Words(" timer "),
-        Piece::Number(u64::from(timer)),
-        Piece::Words(" holds "),
-        Piece::Number(u64::from(value)),
-        Piece::Words(" mark "),
+        word.into(),
+        " ".into(),
+        sensor.into(),
+        " timer ".into(),
+        timer.into(),
+        " holds ".into(),
+        value.into(),
+        " mark ".into(),
         mark_piece(mark),
-        Piece::Words("\n"),
+        "\n".into(),
     ])
 }
 
@@ -86,13 +87,13 @@ pub fn put_link(pen: &mut Pen, link: Link)
     ensures { Wrote pen.old pen.new (link_line link) }
 {
     pen.line(&[
-        Piece::Words("link "),
-        Piece::Number(u64::from(link.from)),
-        Piece::Words(" to "),
-        Piece::Number(u64::from(link.to)),
-        Piece::Words(" label "),
-        Piece::Number(u64::from(link.label)),
-        Piece::Words("\n"),
+        "link ".into(),
+        link.from.into(),
+        " to ".into(),
+        link.to.into(),
+        " label ".into(),
+        link.label.into(),
+        "\n".into(),
     ])
 }
 
@@ -101,13 +102,13 @@ pub fn put_loss(pen: &mut Pen, loss: Loss)
     ensures { Wrote pen.old pen.new (loss_line loss) }
 {
     pen.line(&[
-        Piece::Words("loss "),
-        Piece::Number(u64::from(loss.from)),
-        Piece::Words(" to "),
-        Piece::Number(u64::from(loss.to)),
-        Piece::Words(" at "),
-        Piece::Number(u64::from(loss.instant)),
-        Piece::Words("\n"),
+        "loss ".into(),
+        loss.from.into(),
+        " to ".into(),
+        loss.to.into(),
+        " at ".into(),
+        loss.instant.into(),
+        "\n".into(),
     ])
 }
 
@@ -115,9 +116,5 @@ pub fn put_loss(pen: &mut Pen, loss: Loss)
 pub fn put_play(pen: &mut Pen, budget: u32)
     ensures { Wrote pen.old pen.new (play_line budget) }
 {
-    pen.line(&[
-        Piece::Words("play "),
-        Piece::Number(u64::from(budget)),
-        Piece::Words("\n"),
-    ])
+    pen.line(&["play ".into(), budget.into(), "\n".into()])
 }

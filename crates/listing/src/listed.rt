@@ -42,17 +42,16 @@ fn put_record(pen: &mut Pen, here: Record)
     ensures { Wrote pen.old pen.new (record_line here.entry.file.now here.entry.place) }
 {
     if here.place == 0 {
-        put_head(pen, here.file)
-    } else if here.place <= usize::from(here.at(0).byte(2)) {
-        put_sensor(pen, "sensor", here)
-    } else if here.is(Kind::Link) {
-        put_link(pen, link_at(here))
-    } else if here.is(Kind::Loss) {
-        put_loss(pen, loss_at(here))
-    } else if here.is(Kind::Play) {
-        put_play(pen, here.four_bytes(4))
-    } else {
-        put_sensor(pen, "damage", here)
+        return put_head(pen, here.file);
+    }
+    if here.place <= usize::from(here.at(0).byte(2)) {
+        return put_sensor(pen, "sensor", here);
+    }
+    match here.kind() {
+        Ok(Kind::Link) => put_link(pen, link_at(here)),
+        Ok(Kind::Loss) => put_loss(pen, loss_at(here)),
+        Ok(Kind::Play) => put_play(pen, here.four_bytes(4)),
+        _ => put_sensor(pen, "damage", here),
     }
 }
 

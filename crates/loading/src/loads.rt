@@ -15,7 +15,8 @@ use records::{Record, record_count};
 use refusal::{FieldFault, RunFault};
 use sections::{Parts, cut};
 
-// A field's settings, and how many rows, links, losses and acts it has.
+// A field's settings, and how many rows, links, losses and acts it has: of what is lent, only the front is
+// filled.
 #[derive(Clone, Copy)]
 pub struct Loaded {
     pub settings: Settings,
@@ -75,7 +76,7 @@ fn fill_from<T: FromRecord>(out: &mut [T], file: &[u8])
 }
 
 // Loads a field: its settings and counts are answered, its rows, links, losses and acts fill the
-// front of the buffers.
+// front of the buffers. A struct of the four would tell what it left in them by nested pairs alone.
 pub fn load<N: Filed>(
     numbering: &N,
     file: &[u8],

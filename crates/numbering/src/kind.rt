@@ -4,7 +4,7 @@ ghost use Rattle.numbering.specs.Kinds.{below, zero_of};
 ghost use Rattle.std.proofs.Common.{rules};
 
 // A number has a value of 32 bits, for files and printing. The logic's numbers have no end, so
-// `among` says which of them the kind holds.
+// `among` says which of them the kind holds; no clause of `From` and `TryFrom` could.
 pub trait NumberKind: Copy {
     ghost among: { Self → Bool };
 

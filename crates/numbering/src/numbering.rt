@@ -33,7 +33,8 @@ pub trait Settling: Numbering {
 
     ghost catchup: { Self → Self.Number → Self.Number → ℕ };
 
-    // What `bound` answers: an implementation gives the two figures, and `bound` adds the laws.
+    // What `bound` answers: an implementation gives the two figures, as a pair that any numbering made
+    // outside can give, and `bound` adds the laws.
     fn figures(&self, held: Self::Number, base: Self::Number) -> (u64, u64)
         ensures { result ≡ (patience self.now, catchup self.now held base) };
 

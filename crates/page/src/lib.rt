@@ -4,6 +4,7 @@
 ghost use Rattle.std.specs.Prelude.{◌≡◌, ℕ, min, List, [], ◌∷◌, length};
 ghost use Rattle.page.specs.Pages.{piece_text, last, joined, fitting, written};
 ghost use Rattle.page.specs.Pens.{Wrote};
+ghost use Rattle.page.specs.declared.Piece.TheVariants.{Words, Number};
 
 mod pen;
 
@@ -48,6 +49,39 @@ impl<'a, T: Text> Text for &'a [T] {
 pub enum Piece<'a> {
     Words(&'a str),
     Number(u64),
+}
+
+impl<'a> From<&'a str> for Piece<'a> {
+    ghost from_gives = { λ words r. r ≡ Words words };
+
+    fn from(words: &'a str) -> Piece<'a> {
+        Piece::Words(words)
+    }
+}
+
+// One for each width, since the gate refuses impls that a macro writes.
+impl From<u8> for Piece<'_> {
+    ghost from_gives = { λ n r. r ≡ Number n };
+
+    fn from(n: u8) -> Self {
+        Piece::Number(u64::from(n))
+    }
+}
+
+impl From<u16> for Piece<'_> {
+    ghost from_gives = { λ n r. r ≡ Number n };
+
+    fn from(n: u16) -> Self {
+        Piece::Number(u64::from(n))
+    }
+}
+
+impl From<u32> for Piece<'_> {
+    ghost from_gives = { λ n r. r ≡ Number n };
+
+    fn from(n: u32) -> Self {
+        Piece::Number(u64::from(n))
+    }
 }
 
 impl<'a> Text for Piece<'a> {

@@ -26,6 +26,7 @@ impl FromRecord for Link {
     }
 }
 
+// No `From`: neither a record nor a loss is this crate's.
 pub fn loss_at(here: Record) -> Loss
     ensures { result ≡ loss_at here.entry.file.now here.entry.place }
 {
@@ -62,12 +63,12 @@ impl<K: NumberKind> FromRecord for Damage<K> {
     ghost read = { damage_at K.NumberKind.of };
 
     fn from_record(here: Record) -> Option<Damage<K>> {
-        let held = K::of_value(here.four_bytes(8))?;
+        let row = Row::<K>::from_record(here)?;
         Some(Damage {
             sensor: here.byte(1),
-            timer: here.two_bytes(4),
-            mark: mark_at(here),
-            held,
+            timer: row.timer,
+            mark: row.mark,
+            held: row.held,
         })
     }
 }

@@ -3,19 +3,22 @@
 
 ghost use Rattle.std.specs.Prelude.{◌≡◌, ℕ, List};
 ghost use Rattle.page.specs.Pages.{joined};
+ghost use Rattle.records.specs.Kinds.{letter};
 ghost use Rattle.recording.specs.Records.{mark_byte, head_record, sensor_record, link_record, middle_record, loss_record, row_record, act_record};
 
 use field::{Act, Link, Loss, Row, Settings};
 use numbering::NumberKind;
 use page::{Pen, Text};
+use records::Kind;
 
+// No `From`: an optional hop and a byte are both types of std's.
 fn mark_byte(mark: Option<u8>) -> u8
     ensures { result ≡ mark_byte mark }
 {
     mark.unwrap_or(255)
 }
 
-// The first record of a file.
+// The first record of a file, with the code and the smax that any `Filed` numbering has.
 #[tactic(auto, using(crate::proofs::BigEndian::two_bytes, crate::proofs::BigEndian::four_bytes))]
 pub fn head_record(code: u8, smax: u8, settings: Settings) -> [u8; 12]
     ensures { result ≡ head_record code smax settings }
@@ -23,7 +26,7 @@ pub fn head_record(code: u8, smax: u8, settings: Settings) -> [u8; 12]
     let f = settings.f.to_be_bytes();
     let seed = settings.seed.to_be_bytes();
     [
-        b'F',
+        Kind::Field.into(),
         code,
         settings.n,
         settings.hmax,
@@ -38,6 +41,7 @@ pub fn head_record(code: u8, smax: u8, settings: Settings) -> [u8; 12]
     ]
 }
 
+// Four numbers apart: a row tells no sensor, and the number of a damage is of a kind.
 #[tactic(auto, using(crate::proofs::BigEndian::two_bytes, crate::proofs::BigEndian::four_bytes))]
 fn sensor_record(sensor: u8, mark: Option<u8>, timer: u16, value: u32) -> [u8; 12]
     ensures { result ≡ sensor_record sensor mark timer value }
@@ -45,7 +49,7 @@ fn sensor_record(sensor: u8, mark: Option<u8>, timer: u16, value: u32) -> [u8; 1
     let timer = timer.to_be_bytes();
     let value = value.to_be_bytes();
     [
-        b'S',
+        Kind::Sensor.into(),
         sensor,
         mark_byte(mark),
         0,
@@ -60,13 +64,24 @@ fn sensor_record(sensor: u8, mark: Option<u8>, timer: u16, value: u32) -> [u8; 1
     ]
 }
 
-// A letter, two bytes, and a number of four in the middle.
-fn middle_record(letter: u8, first: u8, second: u8, number: u32) -> [u8; 12]
-    ensures { result ≡ middle_record letter first second number }
+// A kind, two bytes, and a number of four in the middle.
+fn middle_record(kind: Kind, first: u8, second: u8, number: u32) -> [u8; 12]
+    ensures { result ≡ middle_record (letter kind) first second number }
 {
     let number = number.to_be_bytes();
     [
-        letter, first, second, 0, number[0], number[1], number[2], number[3], 0, 0, 0, 0,
+        kind.into(),
+        first,
+        second,
+        0,
+        number[0],
+        number[1],
+        number[2],
+        number[3],
+        0,
+        0,
+        0,
+        0,
     ]
 }
 
@@ -89,7 +104,20 @@ impl Recorded for Link {
     ghost bytes = { link_record };
 
     fn record(self) -> [u8; 12] {
-        [b'L', self.from, self.to, self.label, 0, 0, 0, 0, 0, 0, 0, 0]
+        [
+            Kind::Link.into(),
+            self.from,
+            self.to,
+            self.label,
+            0,
+            0,
+            0,
+            0,
+            0,
+            0,
+            0,
+            0,
+        ]
     }
 }
 
@@ -97,7 +125,7 @@ impl Recorded for Loss {
     ghost bytes = { loss_record };
 
     fn record(self) -> [u8; 12] {
-        middle_record(b'X', self.from, self.to, self.instant)
+        middle_record(Kind::Loss, self.from, self.to, self.instant)
     }
 }
 
@@ -107,7 +135,7 @@ impl<K: NumberKind> Recorded for Act<K> {
 
     fn record(self) -> [u8; 12] {
         match self {
-            Act::Play(budget) => middle_record(b'P', 0, 0, budget),
+            Act::Play(budget) => middle_record(Kind::Play, 0, 0, budget),
             Act::Damage(damage) => sensor_record(
                 damage.sensor,
                 damage.mark,

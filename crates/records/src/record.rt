@@ -43,7 +43,7 @@ impl<'a> Record<'a> {
         self.get(at).unwrap_or(0)
     }
 
-    // Two bytes as a number.
+    // Two bytes as a number; `from_be_bytes` is each width's own.
     pub fn two_bytes(self, at: u16) -> u16
         ensures { result ≡ two_bytes self.entry.file.now self.entry.place at }
     {

@@ -6,6 +6,7 @@ use crate::{FieldFault, RecordFault};
 use std::error::Error;
 use std::fmt;
 
+// The sentences by themselves: what `Display` writes may fail.
 impl RecordFault {
     pub fn cause(self) -> &'static str
         ensures { result.now ≡ record_cause self }

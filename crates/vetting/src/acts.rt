@@ -8,52 +8,35 @@ use numbering::Numbering;
 use refusal::{FieldFault, RunFault};
 use search::pass;
 
-fn damages_none<N: Numbering>(rules: &Rules<N>, act: Act<N::Number>) -> bool
-    ensures { result ≡ damages_none rules.now.settings act }
+fn damages_none<N: Numbering>(rules: &Rules<N>, acts: &[Act<N::Number>], place: usize) -> bool
+    ensures { result ≡ holds_at (damages_none rules.now.settings) acts.now place }
 {
-    match act {
-        Act::Play(_) => false,
-        Act::Damage(damage) => !(damage.sensor < rules.settings.n),
+    match acts.get(place) {
+        Some(Act::Damage(damage)) => !(damage.sensor < rules.settings.n),
+        Some(Act::Play(_)) | None => false,
     }
 }
 
-fn breaks_limits<N: Numbering>(rules: &Rules<N>, act: Act<N::Number>) -> bool
-    ensures { result ≡ breaks_limits (N.Numbering.meaning rules.now.numbering.now) rules.now.settings act }
+fn breaks_limits<N: Numbering>(rules: &Rules<N>, acts: &[Act<N::Number>], place: usize) -> bool
+    ensures { result ≡ holds_at (breaks_limits (N.Numbering.meaning rules.now.numbering.now) rules.now.settings) acts.now place }
 {
-    match act {
-        Act::Play(_) => false,
-        Act::Damage(damage) => {
+    match acts.get(place) {
+        Some(Act::Damage(damage)) => {
             let sensor = usize::from(damage.sensor);
             let limits = rules.settings.limits();
             !(limits.keep(sensor, damage.timer, damage.mark) && rules.numbering.lawful(damage.held))
         }
+        Some(Act::Play(_)) | None => false,
     }
 }
 
-fn no_sensor<N: Numbering>(rules: &Rules<N>, acts: &[Act<N::Number>], place: usize) -> bool
-    ensures { result ≡ holds_at (damages_none rules.now.settings) acts.now place }
-{
-    match acts.get(place) {
-        Some(act) => damages_none(rules, *act),
-        None => false,
-    }
-}
-
-fn bad_damage<N: Numbering>(rules: &Rules<N>, acts: &[Act<N::Number>], place: usize) -> bool
-    ensures { result ≡ holds_at (breaks_limits (N.Numbering.meaning rules.now.numbering.now) rules.now.settings) acts.now place }
-{
-    match acts.get(place) {
-        Some(act) => breaks_limits(rules, *act),
-        None => false,
-    }
-}
-
+// A function for each case, as a file's cases have.
 fn vet_sensors<N: Numbering>(rules: &Rules<N>, acts: &[Act<N::Number>]) -> Result<(), FieldFault>
     ensures { result ≡ sensors_vetted rules.now.settings acts.now }
 {
     pass(
         acts.len(),
-        |place| no_sensor(rules, acts, place),
+        |place| damages_none(rules, acts, place),
         FieldFault::NoSensor,
     )
 }
@@ -63,7 +46,7 @@ fn vet_limits<N: Numbering>(rules: &Rules<N>, acts: &[Act<N::Number>]) -> Result
 {
     pass(
         acts.len(),
-        |place| bad_damage(rules, acts, place),
+        |place| breaks_limits(rules, acts, place),
         FieldFault::BadRow,
     )
 }

@@ -16,7 +16,7 @@ pub struct Draft<'n, 'r, 'l, 'x, N: Numbering> {
     pub losses: &'x [Loss],
 }
 
-// Does one of the first links join these ends?
+// Does one of the first links join these ends? A slice would first need a proof that there are so many.
 fn linked(links: &[Link], count: usize, ends: Ends) -> bool
     ensures { result ≡ linked links.now count ends.from ends.to }
 {
@@ -27,6 +27,7 @@ fn linked(links: &[Link], count: usize, ends: Ends) -> bool
 }
 
 impl<N: Numbering> Draft<'_, '_, '_, '_, N> {
+    // Links and losses are lists of two types: here and in `too_many` each has its half.
     fn no_sensor(&self, place: usize) -> bool
         ensures { result ≡ no_sensor self.now.rules.settings.n self.now.links.now self.now.losses.now place }
     {
@@ -73,6 +74,7 @@ impl<N: Numbering> Draft<'_, '_, '_, '_, N> {
         })
     }
 
+    // A function for each case: with the closures in one function, the search for its proof gave up.
     fn vet_ends(&self) -> Result<(), FieldFault>
         ensures { result ≡ ends_vetted self.now.rules.settings self.now.links.now self.now.losses.now }
     {

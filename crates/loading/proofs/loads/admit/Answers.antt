@@ -1,4 +1,5 @@
-use Rattle.std.proofs.Common.{is_ok, sym, ap, rules}
+use Rattle.std.proofs.Common.{◌≡◌, true, is_ok, rules}
+use Rattle.checking.specs.Cases.{file_checked}
 use Rattle.checking.proofs.Passes.{settings_kept}
 use Rattle.loading.specs.Loads.{admitted}
 use Rattle.loading.proofs.loads.admit.Goals as goal
@@ -7,5 +8,6 @@ use Rattle.loading.proofs.loads.admit.Goals as goal
 pub returns-in_err-settings : goal.returns-in_err-settings
 unfolding admitted
 returns-in_err-settings g c =
-    let kept = settings_kept c.args.file.now (ap is_ok (sym c.in_ok-check_file.ensures)) in
+    let passes : is_ok (file_checked c.args.file.now) ≡ true = search rules in
+    let kept = settings_kept c.args.file.now passes in
     search rules
