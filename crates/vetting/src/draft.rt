@@ -56,6 +56,7 @@ impl<N: Numbering> Draft<'_, '_, '_, '_, N> {
         place == 1024 && self.links.len() > 1024 || place == 256 && self.losses.len() > 256
     }
 
+    // A match, since with a closure over the rules the search for its proof gave up.
     fn bad_row(&self, place: usize) -> bool
         ensures { result ≡ bad_row (N.Numbering.meaning self.now.rules.numbering.now) self.now.rules.settings self.now.rows.now place }
     {
