@@ -19,7 +19,3 @@ judged fault (Some place) = Err (fault place)
 -- a case looked for at each of the places below n: nothing, or the fault of the lowest place at which it holds
 unfoldable pub looked_for : {Fault : Type 0} → (ℕ → Fault) → ℕ → (ℕ → Bool) → Result (Unit {0}) Fault
 looked_for fault n holds = judged fault (lowest holds n)
-
--- what is answered at each place below n, by `answers`, is the value of `at` there
-abbrev pub AnswersAt : {A : Type 0} → ℕ → (ℕ → A → Type 0) → (ℕ → A) → Type 0
-AnswersAt n answers at = (k : ℕ) (r : _) → k < n → answers k r → r ≡ at k

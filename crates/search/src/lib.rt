@@ -2,30 +2,48 @@
 #![tactic(auto)]
 
 ghost use Rattle.std.specs.Prelude.{◌≡◌, ℕ, Bool};
-ghost use Rattle.search.specs.Lowest.{lowest, IsLowest, looked_for, AnswersAt};
+ghost use Rattle.search.specs.Lowest.{lowest, IsLowest, looked_for};
 
-// The lowest of so many places at which a case holds.
-pub fn lowest<H: Fn(usize) -> bool>(places: usize, holds: H) -> Option<usize>
-    requires { H.IsAlwaysCallable holds }
-    ensures value { (at : ℕ → Bool) → AnswersAt places (H.post holds) at → result ≡ lowest at places }
-    ensures lowest { (at : ℕ → Bool) → AnswersAt places (H.post holds) at → IsLowest at places result }
+// A case that is looked for at each of some places, and the fault that it is at a place.
+// It is a trait, and not a closure, since a public call asks nothing of its caller: a closure that is
+// lent would have to be asked to answer at every place.
+pub trait Case {
+    type Fault;
+
+    ghost count: { Self → ℕ };
+
+    ghost at: { Self → ℕ → Bool };
+
+    ghost told: { Self → ℕ → Self.Fault };
+
+    // How many places there are.
+    fn places(&self) -> usize
+        ensures { result ≡ count self.now };
+
+    // Does the case hold at this place?
+    fn holds(&self, place: usize) -> bool
+        ensures { result ≡ at self.now place };
+
+    // The fault that tells this place.
+    fn fault(&self, place: usize) -> Self::Fault
+        ensures { result ≡ told self.now place };
+}
+
+// The lowest place at which the case holds.
+pub fn lowest<C: Case>(case: &C) -> Option<usize>
+    ensures value { result ≡ lowest (C.Case.at case.now) (C.Case.count case.now) }
+    ensures lowest { IsLowest (C.Case.at case.now) (C.Case.count case.now) result }
 {
-    (0..places).find(|place| holds(*place))
+    (0..case.places()).find(|place| case.holds(*place))
 }
 
 // Nothing where the case holds nowhere, and else the fault of the lowest place.
 #[tactic(auto, unfolding(crate::specs::Lowest::looked_for))]
-pub fn pass<H: Fn(usize) -> bool, T: FnOnce(usize) -> E, E>(
-    places: usize,
-    holds: H,
-    fault: T,
-) -> Result<(), E>
-    requires can_hold { H.IsAlwaysCallable holds }
-    requires can_tell { T.IsAlwaysCallable fault }
-    ensures { (at : ℕ → Bool) (told : ℕ → E) → AnswersAt places (H.post holds) at → AnswersAt places (T.post fault) told → result ≡ looked_for told places at }
+pub fn pass<C: Case>(case: &C) -> Result<(), C::Fault>
+    ensures { result ≡ looked_for (C.Case.told case.now) (C.Case.count case.now) (C.Case.at case.now) }
 {
-    match lowest(places, holds) {
-        Some(place) => Err(fault(place)),
+    match lowest(case) {
+        Some(place) => Err(case.fault(place)),
         None => Ok(()),
     }
 }
