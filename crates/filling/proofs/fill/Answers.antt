@@ -4,16 +4,18 @@ use Rattle.filling.proofs.fill.Goals as goal
 use Rattle.filling.proofs.fill.Goals.{in-Some, in_default}
 
 pub loop-place-init : goal.loop-place-init
-loop-place-init g c at answers = search (rules, filled_zero at c.args.out.now)
+loop-place-init g c = search (rules, filled_zero (g.S.Source.at c.args.source.now) c.args.out.now)
 
 pub loop-place-preserved : goal.loop-place-preserved
-loop-place-preserved g c at answers =
-    let before = c.loop-place.invariant at answers in
-    let answered = answers c.loop-place.place c.item.result (omega arith) (search rules) in
+loop-place-preserved g c =
+    let at = g.S.Source.at c.args.source.now in
     elim c.match-item.branch [
-      | in-Some w ↦ one_more at c.loop-place.place c.args.out.now c.loop-place.out c.match-item.out w.in-Some.item before (search rules) (search rules)
-      | in_default w ↦ none_more at c.loop-place.place c.args.out.now c.loop-place.out c.match-item.out before (search rules) (search rules)
+      | in-Some w ↦ one_more at c.loop-place.place c.args.out.now c.loop-place.out c.match-item.out w.in-Some.item c.loop-place.invariant (search rules) (search rules)
+      | in_default w ↦ none_more at c.loop-place.place c.args.out.now c.loop-place.out c.match-item.out c.loop-place.invariant (search rules) (search rules)
     ]
 
 pub returns : goal.returns
-returns g c at answers = c.loop-place.invariant at answers ∙ filled_all at c.args.places c.loop-place.place c.args.out.now (omega arith)
+returns g c =
+    let at = g.S.Source.at c.args.source.now in
+    let size = g.S.Source.size c.args.source.now in
+    c.loop-place.invariant ∙ filled_all at size c.loop-place.place c.args.out.now (omega arith)
