@@ -2,18 +2,46 @@
 #![tactic(auto)]
 
 ghost use Rattle.std.specs.Prelude.{◌≡◌};
-ghost use Rattle.sections.specs.Parts.{leading, first_records, later_records, row_records, link_records, loss_records, act_records};
+ghost use Rattle.records.specs.Records.{records};
+ghost use Rattle.sections.specs.Parts.{other_kind, leading, first_records, later_records, row_records, link_records, loss_records, act_records};
 
 use records::{Kind, Record, record_count};
-use search::lowest;
+use search::{Case, lowest};
+
+// A record that is not of a kind.
+#[derive(Drop)]
+struct OtherKind<'a> {
+    file: &'a [u8],
+    kind: Kind,
+}
+
+impl Case for OtherKind<'_> {
+    type Fault = ();
+
+    ghost count = { λ s. records s.file.now };
+
+    ghost at = { λ s. other_kind s.file.now s.kind };
+
+    ghost told = { λ _ _. tt };
+
+    fn places(&self) -> usize {
+        record_count(self.file)
+    }
+
+    fn holds(&self, place: usize) -> bool {
+        let file = self.file;
+        !Record { file, place }.is(self.kind)
+    }
+
+    fn fault(&self, _place: usize) {}
+}
 
 // How many records at the front are of a kind.
 #[tactic(auto, unfolding(crate::specs::Parts::leading))]
 fn leading(file: &[u8], kind: Kind) -> usize
     ensures { result ≡ leading file.now kind }
 {
-    let count = record_count(file);
-    lowest(count, |place| !Record { file, place }.is(kind)).unwrap_or(count)
+    lowest(&OtherKind { file, kind }).unwrap_or(record_count(file))
 }
 
 // The first records, and those after them.
