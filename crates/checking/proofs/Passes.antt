@@ -6,7 +6,11 @@ use Rattle.records.specs.Records.{records}
 use Rattle.search.proofs.Places.{nowhere}
 use Rattle.field.specs.SettingLimits.{settings_keep}
 use Rattle.filed.specs.Codes.{code_keeps}
-use Rattle.checking.specs.Cases.{rows_checked, unknown_kind, no_sensor, bad_link, too_many, no_link, length_checked, kinds_checked, order_checked, setting_checked, ends_checked, links_checked, count_checked, records_checked, in_record, then, file_checked, file_code, file_n, file_hmax, file_tmax, file_smax, file_f, bad_length, not_zero, out_of_order, bad_setting, bad_row}
+use Rattle.checking.specs.declared.cases.FieldCase.{FieldCase}
+use Rattle.checking.specs.declared.cases.FieldCase.TheVariants.{Order, Setting, Ends, Links, Count, Rows, Losses}
+use Rattle.checking.specs.declared.cases.RecordCase.{RecordCase}
+use Rattle.checking.specs.declared.cases.RecordCase.TheVariants.{Length, Kind, Zero}
+use Rattle.checking.specs.Cases.{unknown_kind, no_sensor, bad_link, too_many, no_link, record_places, record_at, record_fault, record_case, field_places, field_at, field_fault, field_case, records_checked, in_record, then, file_checked, file_code, file_n, file_hmax, file_tmax, file_smax, file_f, bad_length, not_zero, out_of_order, bad_setting, bad_row}
 
 pub false_true : {P : Type 0} → false ≡ true → P
 false_true e = absurd cc
@@ -25,6 +29,15 @@ in_record_passes (Ok t) e = e
 in_record_passes (Err fault) e = e
 
 module _ (file : List ℕ) where
+  -- a case that passes holds at none of its places
+  of_record : (case : RecordCase) → is_ok (record_case file case) ≡ true → (k : ℕ) → k < record_places file case → record_at file case k ≡ false
+  unfolding record_case
+  of_record case = nowhere (record_fault case) (record_places file case) (record_at file case)
+
+  of_field : (case : FieldCase) → is_ok (field_case file case) ≡ true → (k : ℕ) → k < field_places file case → field_at file case k ≡ false
+  unfolding field_case
+  of_field case = nowhere (field_fault case) (field_places file case) (field_at file case)
+
   -- no case holds anywhere
   pub record Passed : Type 0 where
     pub length_right : bad_length file ≡ false
@@ -40,25 +53,25 @@ module _ (file : List ℕ) where
 
   pub passed : is_ok (file_checked file) ≡ true → Passed
   passed ok =
-      let of_records = in_record_passes (records_checked file) (then_first (in_record (records_checked file)) _ ok) in
-      let after_length = then_second (length_checked file) _ of_records in
-      let of_field = then_second (in_record (records_checked file)) _ ok in
-      let after_order = then_second (order_checked file) _ of_field in
-      let after_setting = then_second (setting_checked file) _ after_order in
-      let after_ends = then_second (ends_checked file) _ after_setting in
-      let after_links = then_second (links_checked file) _ after_ends in
-      let after_count = then_second (count_checked file) _ after_links in
+      let records_pass = in_record_passes (records_checked file) (then_first (in_record (records_checked file)) _ ok) in
+      let after_length = then_second (record_case file Length) _ records_pass in
+      let fields_pass = then_second (in_record (records_checked file)) _ ok in
+      let after_order = then_second (field_case file Order) _ fields_pass in
+      let after_setting = then_second (field_case file Setting) _ after_order in
+      let after_ends = then_second (field_case file Ends) _ after_setting in
+      let after_links = then_second (field_case file Links) _ after_ends in
+      let after_count = then_second (field_case file Count) _ after_links in
       record {
-        length_right = nowhere _ _ _ (then_first (length_checked file) _ of_records) 0 (omega arith);
-        known = nowhere _ _ _ (then_first (kinds_checked file) _ after_length);
-        zeroed = nowhere _ _ _ (then_second (kinds_checked file) _ after_length);
-        ordered = nowhere _ _ _ (then_first (order_checked file) _ of_field);
-        set = nowhere _ _ _ (then_first (setting_checked file) _ after_order) 0 (omega arith);
-        within = nowhere _ _ _ (then_first (ends_checked file) _ after_setting);
-        links_keep = nowhere _ _ _ (then_first (links_checked file) _ after_ends);
-        few = nowhere _ _ _ (then_first (count_checked file) _ after_links);
-        rows_keep = nowhere _ _ _ (then_first (rows_checked file) _ after_count);
-        linked_losses = nowhere _ _ _ (then_second (rows_checked file) _ after_count);
+        length_right = of_record Length (then_first (record_case file Length) _ records_pass) 0 (omega arith);
+        known = of_record Kind (then_first (record_case file Kind) _ after_length);
+        zeroed = of_record Zero (then_second (record_case file Kind) _ after_length);
+        ordered = of_field Order (then_first (field_case file Order) _ fields_pass);
+        set = of_field Setting (then_first (field_case file Setting) _ after_order) 0 (omega arith);
+        within = of_field Ends (then_first (field_case file Ends) _ after_setting);
+        links_keep = of_field Links (then_first (field_case file Links) _ after_ends);
+        few = of_field Count (then_first (field_case file Count) _ after_links);
+        rows_keep = of_field Rows (then_first (field_case file Rows) _ after_count);
+        linked_losses = of_field Losses (then_second (field_case file Rows) _ after_count);
       }
 
   -- so the settings keep their limits

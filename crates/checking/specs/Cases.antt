@@ -1,14 +1,17 @@
 -- The cases in which a file is refused: each a test at a place. Assumes nothing.
-use Rattle.std.specs.Prelude.{◌≡◌, ◌<◌, ℕ, ◌+◌, ◌-◌, ◌%◌, Bool, cond, not, ◌&&◌, ◌||◌, List, length, is_some, Some, None, Ok, Err, Option, Result, ◌==◌, nat_le, nat_lt}
-use Rattle.records.specs.declared.Record.{Record}
-use Rattle.records.specs.declared.Kind.{Kind}
+use Rattle.std.specs.Prelude.{ℕ, ◌+◌, ◌-◌, ◌%◌, Bool, cond, not, ◌&&◌, ◌||◌, List, length, is_some, Some, None, Ok, Err, Option, Result, ◌==◌, nat_le, nat_lt}
+use Rattle.records.specs.declared.Kind.{Kind as RecordKind}
 use Rattle.records.specs.declared.Kind.TheVariants.{Field, Sensor, Link, Loss, Play}
 use Rattle.records.specs.Records.{records, byte, two_bytes, four_bytes, is_kind}
 use Rattle.refusal.specs.declared.FieldFault.{FieldFault}
-use Rattle.refusal.specs.declared.FieldFault.TheVariants.{Record as InRecord, OutOfOrder, BadSetting, NoSensor, BadLink, TooMany, BadRow, NoLink}
+use Rattle.refusal.specs.declared.FieldFault.TheVariants.{Record, OutOfOrder, BadSetting, NoSensor, BadLink, TooMany, BadRow, NoLink}
 use Rattle.refusal.specs.declared.RecordFault.{RecordFault}
 use Rattle.refusal.specs.declared.RecordFault.TheVariants.{BadLength, UnknownKind, NotZero}
 use Rattle.search.specs.Lowest.{lowest, looked_for}
+use Rattle.checking.specs.declared.cases.FieldCase.{FieldCase}
+use Rattle.checking.specs.declared.cases.FieldCase.TheVariants.{Order, Setting, Ends, Links, Count, Rows, Losses}
+use Rattle.checking.specs.declared.cases.RecordCase.{RecordCase}
+use Rattle.checking.specs.declared.cases.RecordCase.TheVariants.{Length, Kind, Zero}
 use Rattle.field.specs.declared.Link.{Link as Linked}
 use Rattle.field.specs.Making.{Made}
 use Rattle.field.specs.declared.Settings.{Settings}
@@ -113,7 +116,7 @@ module _ (file : List ℕ) where
   bad_link k = is_kind file k Link && (not (link_keeps (link_at k)) || linked k (byte file k 1) (byte file k 2))
 
   -- one more than so many of a kind; those of a kind stand together
-  abbrev pub outnumbers : ℕ → Kind → ℕ → Bool
+  abbrev pub outnumbers : ℕ → RecordKind → ℕ → Bool
   outnumbers k kind most = is_kind file k kind && (nat_le most k && is_kind file (k - most) kind)
 
   -- 8: a 1,025th link or a 257th loss
@@ -139,58 +142,74 @@ module _ (file : List ℕ) where
   abbrev pub no_link : ℕ → Bool
   no_link k = is_kind file k Loss && not (linked (records file) (byte file k 1) (byte file k 2))
 
+  -- the cases of records, with how many places each has, the test at a place, and the fault
+  abbrev pub record_places : RecordCase → ℕ
+  record_places Length = 1
+  record_places Kind = records file
+  record_places Zero = records file
+
+  abbrev pub record_at : RecordCase → ℕ → Bool
+  record_at Length k = bad_length
+  record_at Kind k = unknown_kind k
+  record_at Zero k = not_zero k
+
+  -- the same of the cases of a field
+  abbrev pub field_places : FieldCase → ℕ
+  field_places Order = records file + 1
+  field_places Setting = 1
+  field_places Ends = records file
+  field_places Links = records file
+  field_places Count = records file
+  field_places Rows = records file
+  field_places Losses = records file
+
+  abbrev pub field_at : FieldCase → ℕ → Bool
+  field_at Order k = out_of_order k
+  field_at Setting k = bad_setting
+  field_at Ends k = no_sensor k
+  field_at Links k = bad_link k
+  field_at Count k = too_many k
+  field_at Rows k = bad_row k
+  field_at Losses k = no_link k
+
+abbrev pub record_fault : RecordCase → ℕ → RecordFault
+record_fault Length k = BadLength
+record_fault Kind k = UnknownKind k
+record_fault Zero k = NotZero k
+
+abbrev pub field_fault : FieldCase → ℕ → FieldFault
+field_fault Order k = OutOfOrder k
+field_fault Setting k = BadSetting
+field_fault Ends k = NoSensor k
+field_fault Links k = BadLink k
+field_fault Count k = TooMany k
+field_fault Rows k = BadRow k
+field_fault Losses k = NoLink k
+
+-- one case looked for everywhere
+unfoldable pub record_case : List ℕ → RecordCase → Result (Unit {0}) RecordFault
+record_case file case = looked_for (record_fault case) (record_places file case) (record_at file case)
+
+unfoldable pub field_case : List ℕ → FieldCase → Result (Unit {0}) FieldFault
+field_case file case = looked_for (field_fault case) (field_places file case) (field_at file case)
+
 -- the first that is wrong, of two
 abbrev pub then : {F : Type 0} → Result (Unit {0}) F → Result (Unit {0}) F → Result (Unit {0}) F
 then (Ok t) next = next
 then (Err fault) next = Err fault
 
--- what is answered of each record of the file, by `answers`, is the value of `at` at its place
-abbrev pub AnswersIn : {A : Type 0} → List ℕ → (Record → A → Type 0) → (ℕ → A) → Type 0
-AnswersIn file answers at = (here : Record) (r : _) → here.file.now ≡ file → here.place < records file → answers here r → r ≡ at here.place
-
--- each case looked for at each of its places
-abbrev pub length_checked : List ℕ → Result (Unit {0}) RecordFault
-length_checked file = looked_for (λ k. BadLength) 1 (λ k. bad_length file)
-
-abbrev pub kinds_checked : List ℕ → Result (Unit {0}) RecordFault
-kinds_checked file = looked_for UnknownKind (records file) (unknown_kind file)
-
-abbrev pub zeros_checked : List ℕ → Result (Unit {0}) RecordFault
-zeros_checked file = looked_for NotZero (records file) (not_zero file)
-
-abbrev pub order_checked : List ℕ → Result (Unit {0}) FieldFault
-order_checked file = looked_for OutOfOrder (records file + 1) (out_of_order file)
-
-abbrev pub setting_checked : List ℕ → Result (Unit {0}) FieldFault
-setting_checked file = looked_for (λ k. BadSetting) 1 (λ k. bad_setting file)
-
-abbrev pub ends_checked : List ℕ → Result (Unit {0}) FieldFault
-ends_checked file = looked_for NoSensor (records file) (no_sensor file)
-
-abbrev pub links_checked : List ℕ → Result (Unit {0}) FieldFault
-links_checked file = looked_for BadLink (records file) (bad_link file)
-
-abbrev pub count_checked : List ℕ → Result (Unit {0}) FieldFault
-count_checked file = looked_for TooMany (records file) (too_many file)
-
-abbrev pub rows_checked : List ℕ → Result (Unit {0}) FieldFault
-rows_checked file = looked_for BadRow (records file) (bad_row file)
-
-abbrev pub losses_checked : List ℕ → Result (Unit {0}) FieldFault
-losses_checked file = looked_for NoLink (records file) (no_link file)
-
 -- Each case is looked for everywhere before the next.
 abbrev pub records_checked : List ℕ → Result (Unit {0}) RecordFault
-records_checked file = then (length_checked file) (then (kinds_checked file) (zeros_checked file))
+records_checked file = then (record_case file Length) (then (record_case file Kind) (record_case file Zero))
 
 abbrev pub fields_checked : List ℕ → Result (Unit {0}) FieldFault
 fields_checked file =
-    then (order_checked file) (then (setting_checked file) (then (ends_checked file) (then (links_checked file) (then (count_checked file) (then (rows_checked file) (losses_checked file))))))
+    then (field_case file Order) (then (field_case file Setting) (then (field_case file Ends) (then (field_case file Links) (then (field_case file Count) (then (field_case file Rows) (field_case file Losses))))))
 
 -- the whole check of a file
 abbrev pub in_record : Result (Unit {0}) RecordFault → Result (Unit {0}) FieldFault
 in_record (Ok t) = Ok t
-in_record (Err fault) = Err (InRecord fault)
+in_record (Err fault) = Err (Record fault)
 
 abbrev pub file_checked : List ℕ → Result (Unit {0}) FieldFault
 file_checked file = then (in_record (records_checked file)) (fields_checked file)

@@ -1,118 +1,140 @@
-// Each case looked for everywhere before the next. Each has a function of its own: where several closures
-// were lent in one function, the search for its proof gave up.
-ghost use Rattle.std.specs.Prelude.{◌≡◌, ℕ, Bool};
-ghost use Rattle.records.specs.Records.{records};
-ghost use Rattle.search.specs.Lowest.{AnswersAt, looked_for};
-ghost use Rattle.checking.specs.Cases.{AnswersIn, length_checked, kinds_checked, zeros_checked, order_checked, setting_checked, ends_checked, links_checked, count_checked, rows_checked, losses_checked, records_checked, fields_checked, file_checked};
+// Each case looked for everywhere before the next.
+ghost use Rattle.std.specs.Prelude.{◌≡◌};
+ghost use Rattle.checking.specs.Cases.{record_places, record_at, record_fault, record_case, records_checked, field_places, field_at, field_fault, field_case, fields_checked, file_checked};
 
+use crate::cases::{FieldCase, RecordCase};
 use crate::field_places::{
     bad_link, bad_row, bad_setting, no_link, no_sensor, out_of_order, too_many,
 };
 use crate::record_places::{bad_length, not_zero, unknown_kind};
 use records::{Record, record_count};
 use refusal::{FieldFault, RecordFault};
-use search::pass;
+use search::{Case, pass};
 
-// A case that is looked for in each record.
-fn pass_each<H: Fn(Record) -> bool, T: FnOnce(usize) -> E, E>(
-    file: &[u8],
-    holds: H,
-    fault: T,
-) -> Result<(), E>
-    requires can_hold { H.IsAlwaysCallable holds }
-    requires can_tell { T.IsAlwaysCallable fault }
-    ensures { (at : ℕ → Bool) (told : ℕ → E) → AnswersIn file.now (H.post holds) at → AnswersAt (records file.now) (T.post fault) told → result ≡ looked_for told (records file.now) at }
-{
-    pass(
-        record_count(file),
-        |place| holds(Record { file, place }),
-        fault,
-    )
+#[derive(Drop)]
+struct OfRecords<'a> {
+    file: &'a [u8],
+    case: RecordCase,
 }
 
-fn check_length(file: &[u8]) -> Result<(), RecordFault>
-    ensures { result ≡ length_checked file.now }
-{
-    pass(1, |_| bad_length(file), |_| RecordFault::BadLength)
+impl Case for OfRecords<'_> {
+    type Fault = RecordFault;
+
+    ghost count = { λ s. record_places s.file.now s.case };
+
+    ghost at = { λ s. record_at s.file.now s.case };
+
+    ghost told = { λ s. record_fault s.case };
+
+    fn places(&self) -> usize {
+        match self.case {
+            RecordCase::Length => 1,
+            RecordCase::Kind | RecordCase::Zero => record_count(self.file),
+        }
+    }
+
+    fn holds(&self, place: usize) -> bool {
+        let file = self.file;
+        let here = Record { file, place };
+        match self.case {
+            RecordCase::Length => bad_length(file),
+            RecordCase::Kind => unknown_kind(here),
+            RecordCase::Zero => not_zero(here),
+        }
+    }
+
+    fn fault(&self, place: usize) -> RecordFault {
+        match self.case {
+            RecordCase::Length => RecordFault::BadLength,
+            RecordCase::Kind => RecordFault::UnknownKind(place),
+            RecordCase::Zero => RecordFault::NotZero(place),
+        }
+    }
 }
 
-fn check_kinds(file: &[u8]) -> Result<(), RecordFault>
-    ensures { result ≡ kinds_checked file.now }
+#[tactic(auto, unfolding(crate::specs::Cases::record_case))]
+fn pass_record(file: &[u8], case: RecordCase) -> Result<(), RecordFault>
+    ensures { result ≡ record_case file.now case }
 {
-    pass_each(file, unknown_kind, RecordFault::UnknownKind)
-}
-
-fn check_zeros(file: &[u8]) -> Result<(), RecordFault>
-    ensures { result ≡ zeros_checked file.now }
-{
-    pass_each(file, not_zero, RecordFault::NotZero)
+    pass(&OfRecords { file, case })
 }
 
 // The file as a row of records.
 pub fn check_records(file: &[u8]) -> Result<(), RecordFault>
     ensures { result ≡ records_checked file.now }
 {
-    check_length(file)?;
-    check_kinds(file)?;
-    check_zeros(file)
+    pass_record(file, RecordCase::Length)?;
+    pass_record(file, RecordCase::Kind)?;
+    pass_record(file, RecordCase::Zero)
 }
 
-fn check_order(file: &[u8]) -> Result<(), FieldFault>
-    ensures { result ≡ order_checked file.now }
-{
-    pass(
-        record_count(file) + 1,
-        |place| out_of_order(Record { file, place }),
-        FieldFault::OutOfOrder,
-    )
+#[derive(Drop)]
+struct OfField<'a> {
+    file: &'a [u8],
+    case: FieldCase,
 }
 
-fn check_setting(file: &[u8]) -> Result<(), FieldFault>
-    ensures { result ≡ setting_checked file.now }
-{
-    pass(1, |_| bad_setting(file), |_| FieldFault::BadSetting)
+impl Case for OfField<'_> {
+    type Fault = FieldFault;
+
+    ghost count = { λ s. field_places s.file.now s.case };
+
+    ghost at = { λ s. field_at s.file.now s.case };
+
+    ghost told = { λ s. field_fault s.case };
+
+    fn places(&self) -> usize {
+        match self.case {
+            FieldCase::Order => record_count(self.file) + 1,
+            FieldCase::Setting => 1,
+            _ => record_count(self.file),
+        }
+    }
+
+    fn holds(&self, place: usize) -> bool {
+        let file = self.file;
+        let here = Record { file, place };
+        match self.case {
+            FieldCase::Order => out_of_order(here),
+            FieldCase::Setting => bad_setting(file),
+            FieldCase::Ends => no_sensor(here),
+            FieldCase::Links => bad_link(here),
+            FieldCase::Count => too_many(here),
+            FieldCase::Rows => bad_row(here),
+            FieldCase::Losses => no_link(here),
+        }
+    }
+
+    fn fault(&self, place: usize) -> FieldFault {
+        match self.case {
+            FieldCase::Order => FieldFault::OutOfOrder(place),
+            FieldCase::Setting => FieldFault::BadSetting,
+            FieldCase::Ends => FieldFault::NoSensor(place),
+            FieldCase::Links => FieldFault::BadLink(place),
+            FieldCase::Count => FieldFault::TooMany(place),
+            FieldCase::Rows => FieldFault::BadRow(place),
+            FieldCase::Losses => FieldFault::NoLink(place),
+        }
+    }
 }
 
-fn check_ends(file: &[u8]) -> Result<(), FieldFault>
-    ensures { result ≡ ends_checked file.now }
+#[tactic(auto, unfolding(crate::specs::Cases::field_case))]
+fn pass_field(file: &[u8], case: FieldCase) -> Result<(), FieldFault>
+    ensures { result ≡ field_case file.now case }
 {
-    pass_each(file, no_sensor, FieldFault::NoSensor)
-}
-
-fn check_links(file: &[u8]) -> Result<(), FieldFault>
-    ensures { result ≡ links_checked file.now }
-{
-    pass_each(file, bad_link, FieldFault::BadLink)
-}
-
-fn check_count(file: &[u8]) -> Result<(), FieldFault>
-    ensures { result ≡ count_checked file.now }
-{
-    pass_each(file, too_many, FieldFault::TooMany)
-}
-
-fn check_rows(file: &[u8]) -> Result<(), FieldFault>
-    ensures { result ≡ rows_checked file.now }
-{
-    pass_each(file, bad_row, FieldFault::BadRow)
-}
-
-fn check_losses(file: &[u8]) -> Result<(), FieldFault>
-    ensures { result ≡ losses_checked file.now }
-{
-    pass_each(file, no_link, FieldFault::NoLink)
+    pass(&OfField { file, case })
 }
 
 fn check_fields(file: &[u8]) -> Result<(), FieldFault>
     ensures { result ≡ fields_checked file.now }
 {
-    check_order(file)?;
-    check_setting(file)?;
-    check_ends(file)?;
-    check_links(file)?;
-    check_count(file)?;
-    check_rows(file)?;
-    check_losses(file)
+    pass_field(file, FieldCase::Order)?;
+    pass_field(file, FieldCase::Setting)?;
+    pass_field(file, FieldCase::Ends)?;
+    pass_field(file, FieldCase::Links)?;
+    pass_field(file, FieldCase::Count)?;
+    pass_field(file, FieldCase::Rows)?;
+    pass_field(file, FieldCase::Losses)
 }
 
 // Whether the file is a field: nothing, or the first case that holds, at its lowest place.

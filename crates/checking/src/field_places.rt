@@ -1,13 +1,13 @@
 // The cases of a field, at a place.
 ghost use Rattle.std.specs.Prelude.{◌≡◌, ◌+◌};
 ghost use Rattle.filed.specs.Codes.{lawful_value};
-ghost use Rattle.checking.specs.Cases.{misplaced, out_of_order, SettingsIn, bad_setting, no_sensor, link_at, linked, bad_link, outnumbers, too_many, mark_at, clock_at, number_at, bad_row, no_link};
+ghost use Rattle.checking.specs.Cases.{misplaced, out_of_order, SettingsIn, bad_setting, no_sensor, link_at, links, linked, bad_link, outnumbers, too_many, mark_at, clock_at, number_at, bad_row, no_link};
 
 use field::{Ends, Limits, Link, Settings};
 use filed::FileNumbering;
 use records::{Kind, Record, record_count};
 use refusal::FieldFault;
-use search::lowest;
+use search::{Case, lowest};
 
 fn misplaced(here: Record, before: usize) -> bool
     requires { here.place ≡ before + 1 }
@@ -88,15 +88,41 @@ pub fn no_sensor(here: Record) -> bool
     pair && !Ends::from(link_at(here)).are_within(n) || here.is(Kind::Sensor) && !(here.byte(1) < n)
 }
 
+// A link that joins two ends, among the first records.
+#[derive(Drop)]
+struct Joining<'a> {
+    file: &'a [u8],
+    count: usize,
+    ends: Ends,
+}
+
+impl Case for Joining<'_> {
+    type Fault = ();
+
+    ghost count = { λ s. s.count };
+
+    ghost at = { λ s. links s.file.now s.ends.from s.ends.to };
+
+    ghost told = { λ _ _. tt };
+
+    fn places(&self) -> usize {
+        self.count
+    }
+
+    fn holds(&self, place: usize) -> bool {
+        let file = self.file;
+        let here = Record { file, place };
+        here.is(Kind::Link) && link_at(here).joins(self.ends)
+    }
+
+    fn fault(&self, _place: usize) {}
+}
+
 // Does one of the first records link these ends? A slice would have to be cut from the bytes first.
 fn linked(file: &[u8], count: usize, ends: Ends) -> bool
     ensures { result ≡ linked file.now count ends.from ends.to }
 {
-    lowest(count, |place| {
-        let here = Record { file, place };
-        here.is(Kind::Link) && link_at(here).joins(ends)
-    })
-    .is_some()
+    lowest(&Joining { file, count, ends }).is_some()
 }
 
 pub fn bad_link(here: Record) -> bool

@@ -1,6 +1,7 @@
 // Whether a file is a field: each case in which it is refused, looked for in order.
 #![tactic(auto)]
 
+mod cases;
 mod check;
 mod field_places;
 mod record_places;
