@@ -9,11 +9,12 @@ use crate::counts::Counts;
 use checking::{check_file, settings_in};
 use field::{Act, Link, Loss, Row, Settings};
 use filed::Filed;
-use filling::fill;
+use filling::{Source, fill};
 use reading::FromRecord;
 use records::{Record, record_count};
 use refusal::{FieldFault, RunFault};
 use sections::{Parts, cut};
+use std::marker::PhantomData;
 
 // A field's settings, and how many rows, links, losses and acts it has: of what is lent, only the front is
 // filled.
@@ -64,15 +65,36 @@ fn counts_of(parts: Parts) -> Counts
     }
 }
 
+// What the records of a file are read as.
+#[derive(Drop)]
+struct ItemsIn<'a, T> {
+    file: &'a [u8],
+    item: PhantomData<T>,
+}
+
+impl<T: FromRecord> Source for ItemsIn<'_, T> {
+    type Item = T;
+
+    ghost size = { λ s. records s.file.now };
+
+    ghost at = { λ s. T.FromRecord.read s.file.now };
+
+    fn places(&self) -> usize {
+        record_count(self.file)
+    }
+
+    fn item(&self, place: usize) -> Option<T> {
+        let file = self.file;
+        T::from_record(Record { file, place })
+    }
+}
+
 // Fills the front of a buffer with what records are read as; the rest of it stays.
 fn fill_from<T: FromRecord>(out: &mut [T], file: &[u8])
     ensures { out.new ≡ filled (T.FromRecord.read file.now) (records file.now) out.old }
 {
-    fill(
-        out,
-        record_count(file),
-        |place| T::from_record(Record { file, place }),
-    );
+    let item = PhantomData;
+    fill(&ItemsIn::<T> { file, item }, out);
 }
 
 // Loads a field: its settings and counts are answered, its rows, links, losses and acts fill the
