@@ -1,5 +1,5 @@
 -- The cases in which acts are not written: each a test at a place. Assumes nothing.
-use Rattle.std.specs.Prelude.{Bool, false, not, ◌&&◌, List, length, Result, nat_lt}
+use Rattle.std.specs.Prelude.{ℕ, Bool, false, not, ◌&&◌, List, length, Result, nat_lt}
 use Rattle.checking.specs.Cases.{then}
 use Rattle.refusal.specs.Carried.{in_field}
 use Rattle.refusal.specs.declared.FieldFault.{FieldFault}
@@ -11,6 +11,8 @@ use Rattle.field.specs.declared.Act.{Act}
 use Rattle.field.specs.declared.Act.TheVariants.{Play, Damage as Damages}
 use Rattle.field.specs.declared.Settings.{Settings}
 use Rattle.field.specs.Rows.{clock_keeps}
+use Rattle.vetting.specs.declared.cases.ActCase.{ActCase}
+use Rattle.vetting.specs.declared.cases.ActCase.TheVariants.{Sensors, Limits}
 use Rattle.vetting.specs.Vetted.{holds_at}
 
 -- 6: a damage of a sensor that is not there
@@ -24,13 +26,18 @@ module _ {Num : Type 0} (m : Meaning Num) (s : Settings) where
   breaks_limits (Play budget) = false
   breaks_limits (Damages damage) = not (clock_keeps s.hmax s.tmax s.f damage.sensor damage.timer damage.mark && m.lawful damage.held)
 
--- each case looked for in every act
-abbrev pub sensors_vetted : {Num : Type 0} → Settings → List (Act Num) → Result (Unit {0}) FieldFault
-sensors_vetted s acts = looked_for NoSensor (length acts) (holds_at (damages_none s) acts)
+  abbrev pub act_test : ActCase → Act Num → Bool
+  act_test Sensors = damages_none s
+  act_test Limits = breaks_limits
+
+abbrev pub act_fault : ActCase → ℕ → FieldFault
+act_fault Sensors k = NoSensor k
+act_fault Limits k = BadRow k
 
 module _ {Num : Type 0} (m : Meaning Num) (s : Settings) (acts : List (Act Num)) where
-  abbrev pub limits_vetted : Result (Unit {0}) FieldFault
-  limits_vetted = looked_for BadRow (length acts) (holds_at (breaks_limits m s) acts)
+  -- one case looked for everywhere
+  unfoldable pub act_case : ActCase → Result (Unit {0}) FieldFault
+  act_case case = looked_for (act_fault case) (length acts) (holds_at (act_test m s case) acts)
 
   abbrev pub acts_vetted : Result (Unit {0}) RunFault
-  acts_vetted = in_field (then (sensors_vetted s acts) limits_vetted)
+  acts_vetted = in_field (then (act_case Sensors) (act_case Limits))

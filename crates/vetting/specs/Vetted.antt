@@ -15,6 +15,8 @@ use Rattle.field.specs.declared.Row.{Row}
 use Rattle.field.specs.declared.Settings.{Settings}
 use Rattle.field.specs.declared.Stage.TheVariants.{Between}
 use Rattle.field.specs.Rows.{row_keeps, ends_within, link_keeps, joins}
+use Rattle.vetting.specs.declared.cases.DraftCase.{DraftCase}
+use Rattle.vetting.specs.declared.cases.DraftCase.TheVariants.{Ends, Links, Count, Rows, Losses}
 
 -- a test of the item at a place, which does not hold where there is none
 abbrev pub holds_at : {A : Type 0} → (A → Bool) → List A → ℕ → Bool
@@ -44,28 +46,38 @@ bad_row m s rows k = holds_at (λ row. not (row_keeps m s Between k row)) rows k
 abbrev pub no_link : List Link → List Loss → ℕ → Bool
 no_link links losses k = holds_at (λ loss. not (linked links (length links) loss.from loss.to)) losses k
 
--- each case looked for at each of its places
-abbrev pub ends_vetted : Settings → List Link → List Loss → Result (Unit {0}) FieldFault
-ends_vetted s links losses = looked_for NoSensor (max (length links) (length losses)) (no_sensor s.n links losses)
+module _ {Num : Type 0} (m : Meaning Num) (s : Settings) (rows : List (Row Num)) (links : List Link) (losses : List Loss) where
+  -- how many places each case has, and its test at a place
+  abbrev pub draft_places : DraftCase → ℕ
+  draft_places Ends = max (length links) (length losses)
+  draft_places Links = length links
+  draft_places Count = 1025
+  draft_places Rows = s.n
+  draft_places Losses = length losses
 
-abbrev pub links_vetted : List Link → Result (Unit {0}) FieldFault
-links_vetted links = looked_for BadLink (length links) (bad_link links)
+  abbrev pub draft_at : DraftCase → ℕ → Bool
+  draft_at Ends k = no_sensor s.n links losses k
+  draft_at Links k = bad_link links k
+  draft_at Count k = too_many links losses k
+  draft_at Rows k = bad_row m s rows k
+  draft_at Losses k = no_link links losses k
 
-abbrev pub count_vetted : List Link → List Loss → Result (Unit {0}) FieldFault
-count_vetted links losses = looked_for TooMany 1025 (too_many links losses)
+abbrev pub draft_fault : DraftCase → ℕ → FieldFault
+draft_fault Ends k = NoSensor k
+draft_fault Links k = BadLink k
+draft_fault Count k = TooMany k
+draft_fault Rows k = BadRow k
+draft_fault Losses k = NoLink k
 
-abbrev pub losses_vetted : List Link → List Loss → Result (Unit {0}) FieldFault
-losses_vetted links losses = looked_for NoLink (length losses) (no_link links losses)
+module _ {Num : Type 0} (m : Meaning Num) (s : Settings) (rows : List (Row Num)) (links : List Link) (losses : List Loss) where
+  -- one case looked for everywhere
+  unfoldable pub draft_case : DraftCase → Result (Unit {0}) FieldFault
+  draft_case case = looked_for (draft_fault case) (draft_places m s rows links losses case) (draft_at m s rows links losses case)
 
-module _ {Num : Type 0} (m : Meaning Num) (s : Settings) (rows : List (Row Num)) where
-  abbrev pub rows_vetted : Result (Unit {0}) FieldFault
-  rows_vetted = looked_for BadRow s.n (bad_row m s rows)
+  -- Each case is looked for everywhere before the next.
+  abbrev pub drafts_vetted : Result (Unit {0}) FieldFault
+  drafts_vetted = then (draft_case Ends) (then (draft_case Links) (then (draft_case Count) (then (draft_case Rows) (draft_case Losses))))
 
-  module _ (links : List Link) (losses : List Loss) where
-    -- Each case is looked for everywhere before the next.
-    abbrev pub drafts_vetted : Result (Unit {0}) FieldFault
-    drafts_vetted = then (ends_vetted s links losses) (then (links_vetted links) (then (count_vetted links losses) (then rows_vetted (losses_vetted links losses))))
-
-    -- what is there is looked at before 11 is told
-    abbrev pub vetted : Result (Unit {0}) RunFault
-    vetted = then (in_field drafts_vetted) (cond (nat_lt (length rows) s.n) (Err ShortBuffer) (Ok tt))
+  -- what is there is looked at before 11 is told
+  abbrev pub vetted : Result (Unit {0}) RunFault
+  vetted = then (in_field drafts_vetted) (cond (nat_lt (length rows) s.n) (Err ShortBuffer) (Ok tt))

@@ -1,11 +1,13 @@
 // A field in memory, and each case in which it is none, looked for everywhere before the next.
 ghost use Rattle.std.specs.Prelude.{◌≡◌};
-ghost use Rattle.vetting.specs.Vetted.{linked, no_sensor, bad_link, too_many, bad_row, no_link, ends_vetted, links_vetted, count_vetted, rows_vetted, losses_vetted, drafts_vetted, vetted};
+ghost use Rattle.field.specs.Rows.{joins};
+ghost use Rattle.vetting.specs.Vetted.{holds_at, linked, no_sensor, bad_link, too_many, bad_row, no_link, draft_places, draft_at, draft_fault, draft_case, drafts_vetted, vetted};
 
+use crate::cases::DraftCase;
 use field::{Ends, Link, Loss, Row, Rules, Stage};
 use numbering::Numbering;
 use refusal::{FieldFault, RunFault};
-use search::{lowest, pass};
+use search::{Case, lowest, pass};
 
 // What is to be written as a field.
 #[derive(Drop)]
@@ -16,14 +18,88 @@ pub struct Draft<'n, 'r, 'l, 'x, N: Numbering> {
     pub losses: &'x [Loss],
 }
 
+// A link that joins two ends, among the first.
+#[derive(Drop)]
+struct Joining<'a> {
+    links: &'a [Link],
+    count: usize,
+    ends: Ends,
+}
+
+impl Case for Joining<'_> {
+    type Fault = ();
+
+    ghost count = { λ s. s.count };
+
+    ghost at = { λ s. holds_at (λ link. joins link s.ends.from s.ends.to) s.links.now };
+
+    ghost told = { λ _ _. tt };
+
+    fn places(&self) -> usize {
+        self.count
+    }
+
+    fn holds(&self, place: usize) -> bool {
+        let ends = self.ends;
+        self.links.get(place).is_some_and(|link| link.joins(ends))
+    }
+
+    fn fault(&self, _place: usize) {}
+}
+
 // Does one of the first links join these ends? A slice would first need a proof that there are so many.
 fn linked(links: &[Link], count: usize, ends: Ends) -> bool
     ensures { result ≡ linked links.now count ends.from ends.to }
 {
-    lowest(count, |place| {
-        links.get(place).is_some_and(|link| link.joins(ends))
-    })
-    .is_some()
+    lowest(&Joining { links, count, ends }).is_some()
+}
+
+// A case of a draft.
+#[derive(Drop)]
+struct OfDraft<'d, 'n, 'r, 'l, 'x, N: Numbering> {
+    draft: &'d Draft<'n, 'r, 'l, 'x, N>,
+    case: DraftCase,
+}
+
+impl<'d, 'n, 'r, 'l, 'x, N: Numbering> Case for OfDraft<'d, 'n, 'r, 'l, 'x, N> {
+    type Fault = FieldFault;
+
+    ghost count = { λ s. let d = s.draft.now in draft_places (N.Numbering.meaning d.rules.numbering.now) d.rules.settings d.rows.now d.links.now d.losses.now s.case };
+
+    ghost at = { λ s. let d = s.draft.now in draft_at (N.Numbering.meaning d.rules.numbering.now) d.rules.settings d.rows.now d.links.now d.losses.now s.case };
+
+    ghost told = { λ s. draft_fault s.case };
+
+    fn places(&self) -> usize {
+        let draft = self.draft;
+        match self.case {
+            DraftCase::Ends => draft.links.len().max(draft.losses.len()),
+            DraftCase::Links => draft.links.len(),
+            DraftCase::Count => 1025,
+            DraftCase::Rows => usize::from(draft.rules.settings.n),
+            DraftCase::Losses => draft.losses.len(),
+        }
+    }
+
+    fn holds(&self, place: usize) -> bool {
+        match self.case {
+            DraftCase::Ends => self.draft.no_sensor(place),
+            DraftCase::Links => self.draft.bad_link(place),
+            DraftCase::Count => self.draft.too_many(place),
+            DraftCase::Rows => self.draft.bad_row(place),
+            DraftCase::Losses => self.draft.no_link(place),
+        }
+    }
+
+    fn fault(&self, place: usize) -> FieldFault {
+        match self.case {
+            DraftCase::Ends => FieldFault::NoSensor(place),
+            DraftCase::Links => FieldFault::BadLink(place),
+            DraftCase::Count => FieldFault::TooMany(place),
+            DraftCase::Rows => FieldFault::BadRow(place),
+            DraftCase::Losses => FieldFault::NoLink(place),
+        }
+    }
 }
 
 impl<N: Numbering> Draft<'_, '_, '_, '_, N> {
@@ -75,55 +151,21 @@ impl<N: Numbering> Draft<'_, '_, '_, '_, N> {
         })
     }
 
-    // A function for each case: with the closures in one function, the search for its proof gave up.
-    fn vet_ends(&self) -> Result<(), FieldFault>
-        ensures { result ≡ ends_vetted self.now.rules.settings self.now.links.now self.now.losses.now }
+    #[tactic(auto, unfolding(crate::specs::Vetted::draft_case))]
+    fn pass(&self, case: DraftCase) -> Result<(), FieldFault>
+        ensures { result ≡ draft_case (N.Numbering.meaning self.now.rules.numbering.now) self.now.rules.settings self.now.rows.now self.now.links.now self.now.losses.now case }
     {
-        let places = self.links.len().max(self.losses.len());
-        pass(places, |place| self.no_sensor(place), FieldFault::NoSensor)
-    }
-
-    fn vet_links(&self) -> Result<(), FieldFault>
-        ensures { result ≡ links_vetted self.now.links.now }
-    {
-        pass(
-            self.links.len(),
-            |place| self.bad_link(place),
-            FieldFault::BadLink,
-        )
-    }
-
-    fn vet_count(&self) -> Result<(), FieldFault>
-        ensures { result ≡ count_vetted self.now.links.now self.now.losses.now }
-    {
-        pass(1025, |place| self.too_many(place), FieldFault::TooMany)
-    }
-
-    fn vet_rows(&self) -> Result<(), FieldFault>
-        ensures { result ≡ rows_vetted (N.Numbering.meaning self.now.rules.numbering.now) self.now.rules.settings self.now.rows.now }
-    {
-        let places = usize::from(self.rules.settings.n);
-        pass(places, |place| self.bad_row(place), FieldFault::BadRow)
-    }
-
-    fn vet_losses(&self) -> Result<(), FieldFault>
-        ensures { result ≡ losses_vetted self.now.links.now self.now.losses.now }
-    {
-        pass(
-            self.losses.len(),
-            |place| self.no_link(place),
-            FieldFault::NoLink,
-        )
+        pass(&OfDraft { draft: self, case })
     }
 
     fn vet_field(&self) -> Result<(), FieldFault>
         ensures { result ≡ drafts_vetted (N.Numbering.meaning self.now.rules.numbering.now) self.now.rules.settings self.now.rows.now self.now.links.now self.now.losses.now }
     {
-        self.vet_ends()?;
-        self.vet_links()?;
-        self.vet_count()?;
-        self.vet_rows()?;
-        self.vet_losses()
+        self.pass(DraftCase::Ends)?;
+        self.pass(DraftCase::Links)?;
+        self.pass(DraftCase::Count)?;
+        self.pass(DraftCase::Rows)?;
+        self.pass(DraftCase::Losses)
     }
 
     // Whether this is a field: nothing, or the first case that holds, at its lowest place.

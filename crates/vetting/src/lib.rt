@@ -2,6 +2,7 @@
 #![tactic(auto)]
 
 mod acts;
+mod cases;
 mod draft;
 
 pub use acts::vet_acts;
