@@ -11,6 +11,8 @@ use records::{Record, record_count};
 use refusal::{FieldFault, RecordFault};
 use search::{Case, pass};
 
+// A case of the records. A type for each case would have the six members of `Case` each: here each member
+// is a match on the case.
 #[derive(Drop)]
 struct OfRecords<'a> {
     file: &'a [u8],
@@ -68,6 +70,7 @@ pub fn check_records(file: &[u8]) -> Result<(), RecordFault>
     pass_record(file, RecordCase::Zero)
 }
 
+// A case of the field, likewise.
 #[derive(Drop)]
 struct OfField<'a> {
     file: &'a [u8],

@@ -31,7 +31,7 @@ fn breaks_limits<N: Numbering>(rules: &Rules<N>, acts: &[Act<N::Number>], place:
     }
 }
 
-// A case of acts.
+// A case of acts, likewise.
 #[derive(Drop)]
 struct OfActs<'r, 'n, 'a, N: Numbering> {
     rules: &'r Rules<'n, N>,

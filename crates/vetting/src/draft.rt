@@ -54,7 +54,7 @@ fn linked(links: &[Link], count: usize, ends: Ends) -> bool
     lowest(&Joining { links, count, ends }).is_some()
 }
 
-// A case of a draft.
+// A case of a draft: one type for all of them, as `checking` has for a file's.
 #[derive(Drop)]
 struct OfDraft<'d, 'n, 'r, 'l, 'x, N: Numbering> {
     draft: &'d Draft<'n, 'r, 'l, 'x, N>,
