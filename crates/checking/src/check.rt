@@ -54,6 +54,7 @@ impl Case for OfRecords<'_> {
     }
 }
 
+// Each list of cases has its own, since each is of another type.
 #[tactic(auto, unfolding(crate::specs::Cases::record_case))]
 fn pass_record(file: &[u8], case: RecordCase) -> Result<(), RecordFault>
     ensures { result ≡ record_case file.now case }

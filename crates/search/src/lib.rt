@@ -4,9 +4,9 @@
 ghost use Rattle.std.specs.Prelude.{◌≡◌, ℕ, Bool};
 ghost use Rattle.search.specs.Lowest.{lowest, IsLowest, looked_for};
 
-// A case that is looked for at each of some places, and the fault that it is at a place.
-// It is a trait, and not a closure, since a public call asks nothing of its caller: a closure that is
-// lent would have to be asked to answer at every place.
+// A case that is looked for at each of some places, and the fault that it is at a place, `()` where only
+// the place is asked for. It is a trait, and not a closure, since a public call asks nothing of its
+// caller: a closure that is lent would have to be asked to answer at every place.
 pub trait Case {
     type Fault;
 

@@ -18,7 +18,7 @@ pub struct Draft<'n, 'r, 'l, 'x, N: Numbering> {
     pub losses: &'x [Loss],
 }
 
-// A link that joins two ends, among the first.
+// A link that joins two ends, among the first. In a file, where `checking` looks, a link is a record.
 #[derive(Drop)]
 struct Joining<'a> {
     links: &'a [Link],
