@@ -30,13 +30,13 @@ in_record_passes (Err fault) e = e
 
 module _ (file : List ℕ) where
   -- a case that passes holds at none of its places
-  of_record : (case : RecordCase) → is_ok (record_case file case) ≡ true → (k : ℕ) → k < record_places file case → record_at file case k ≡ false
+  record_nowhere : (case : RecordCase) → is_ok (record_case file case) ≡ true → (k : ℕ) → k < record_places file case → record_at file case k ≡ false
   unfolding record_case
-  of_record case = nowhere (record_fault case) (record_places file case) (record_at file case)
+  record_nowhere case = nowhere (record_fault case) (record_places file case) (record_at file case)
 
-  of_field : (case : FieldCase) → is_ok (field_case file case) ≡ true → (k : ℕ) → k < field_places file case → field_at file case k ≡ false
+  field_nowhere : (case : FieldCase) → is_ok (field_case file case) ≡ true → (k : ℕ) → k < field_places file case → field_at file case k ≡ false
   unfolding field_case
-  of_field case = nowhere (field_fault case) (field_places file case) (field_at file case)
+  field_nowhere case = nowhere (field_fault case) (field_places file case) (field_at file case)
 
   -- no case holds anywhere
   pub record Passed : Type 0 where
@@ -62,16 +62,16 @@ module _ (file : List ℕ) where
       let after_links = then_second (field_case file Links) _ after_ends in
       let after_count = then_second (field_case file Count) _ after_links in
       record {
-        length_right = of_record Length (then_first (record_case file Length) _ records_pass) 0 (omega arith);
-        known = of_record Kind (then_first (record_case file Kind) _ after_length);
-        zeroed = of_record Zero (then_second (record_case file Kind) _ after_length);
-        ordered = of_field Order (then_first (field_case file Order) _ fields_pass);
-        set = of_field Setting (then_first (field_case file Setting) _ after_order) 0 (omega arith);
-        within = of_field Ends (then_first (field_case file Ends) _ after_setting);
-        links_keep = of_field Links (then_first (field_case file Links) _ after_ends);
-        few = of_field Count (then_first (field_case file Count) _ after_links);
-        rows_keep = of_field Rows (then_first (field_case file Rows) _ after_count);
-        linked_losses = of_field Losses (then_second (field_case file Rows) _ after_count);
+        length_right = record_nowhere Length (then_first (record_case file Length) _ records_pass) 0 (omega arith);
+        known = record_nowhere Kind (then_first (record_case file Kind) _ after_length);
+        zeroed = record_nowhere Zero (then_second (record_case file Kind) _ after_length);
+        ordered = field_nowhere Order (then_first (field_case file Order) _ fields_pass);
+        set = field_nowhere Setting (then_first (field_case file Setting) _ after_order) 0 (omega arith);
+        within = field_nowhere Ends (then_first (field_case file Ends) _ after_setting);
+        links_keep = field_nowhere Links (then_first (field_case file Links) _ after_ends);
+        few = field_nowhere Count (then_first (field_case file Count) _ after_links);
+        rows_keep = field_nowhere Rows (then_first (field_case file Rows) _ after_count);
+        linked_losses = field_nowhere Losses (then_second (field_case file Rows) _ after_count);
       }
 
   -- so the settings keep their limits

@@ -11,8 +11,8 @@ use records::{Record, record_count};
 use refusal::{FieldFault, RecordFault};
 use search::{Case, pass};
 
-// A case of the records. A type for each case would have the six members of `Case` each: here each member
-// is a match on the case.
+// A case of the records. A type for each case would have all the members of `Case` each time: here they
+// match on the case.
 #[derive(Drop)]
 struct OfRecords<'a> {
     file: &'a [u8],
