@@ -2,14 +2,13 @@
 #![tactic(auto)]
 
 ghost use Rattle.std.specs.Prelude.{◌≡◌, Some, IfOk};
-ghost use Rattle.hearing.specs.declared.Fault.TheVariants.{Memory};
-ghost use Rattle.hearing.specs.Forecasts.{Answers};
+ghost use Rattle.std.specs.Iterator.{YieldsFirst, item_count};
+ghost use Rattle.hearing.specs.Forecasts.{foretold};
 ghost use Rattle.hearing.specs.Written.{verdict_word};
 ghost use Rattle.hearing.specs.Hearing.{heard, hearing, Settled};
 ghost use Rattle.numbering.specs.Meaning.{Lawful};
 
 use numbering::{Numbering, Settling};
-use std::alloc::{AllocError, Global};
 use std::fmt;
 
 #[derive(Clone, Copy, PartialEq, Eq, Debug)]
@@ -53,40 +52,55 @@ pub fn hear<N: Numbering>(numbering: &N, held: N::Number, number: N::Number) -> 
     }
 }
 
-// The first floods of a base that holds `base`, at most `most` and as far as numbers follow, each
-// heard by a sensor that holds `held`.
-#[tactic(auto, using(crate::proofs::Hears::none_follows, crate::proofs::Hears::one_more))]
+// The floods of a base, as a sensor hears them, one after another.
+#[derive(Drop)]
+pub struct Floods<'n, N: Numbering> {
+    numbering: &'n N,
+    held: N::Number,
+    base: N::Number,
+    left: u64,
+}
+
+// The first floods of a base that holds `base`, at most `most` and as far as numbers follow, each heard by a
+// sensor that holds `held`.
 pub fn hear_floods<N: Numbering>(
-    heap: Global,
     numbering: &N,
     held: N::Number,
     base: N::Number,
     most: u64,
-) -> Result<Vec<Heard<N::Number>>, AllocError>
-    ensures { IfOk result (λ v. v.items ≡ hearing (N.Numbering.meaning numbering.now) most held base) }
+) -> Floods<'_, N>
+    ensures { hearing (N.Numbering.meaning result.numbering.now) result.left result.held result.base ≡ hearing (N.Numbering.meaning numbering.now) most held base }
 {
-    let mut floods = Vec::new(heap);
-    let mut holds = held;
-    let mut sent = base;
-    // a chain would have to carry both numbers, and stop where none follows
-    for _ in 0..most {
-        let Some(number) = numbering.next(sent) else {
-            return Ok(floods);
-        };
-        let flood = hear(numbering, holds, number);
-        holds = flood.held;
-        sent = number;
-        floods.push(flood)?;
+    Floods {
+        numbering,
+        held,
+        base,
+        left: most,
     }
-    Ok(floods)
 }
 
-// What a settling numbering promises a sensor, and the floods that bear it out.
-#[derive(Drop)]
-pub struct Forecast<Number> {
+impl<N: Numbering> Iterator for Floods<'_, N> {
+    type Item = Heard<N::Number>;
+
+    ghost next_gives = { YieldsFirst (λ s. hearing (N.Numbering.meaning s.numbering.now) s.left s.held s.base) };
+
+    ghost remaining = { item_count (λ s. hearing (N.Numbering.meaning s.numbering.now) s.left s.held s.base) };
+
+    fn next(&mut self) -> Option<Heard<N::Number>> {
+        self.left = self.left.checked_sub(1)?;
+        let number = self.numbering.next(self.base)?;
+        let flood = hear(self.numbering, self.held, number);
+        self.held = flood.held;
+        self.base = number;
+        Some(flood)
+    }
+}
+
+// What a settling numbering promises a sensor.
+#[derive(Clone, Copy, PartialEq, Eq, Debug)]
+pub struct Forecast {
     pub patience: u64,
     pub catch_up: u64,
-    pub floods: Vec<Heard<Number>>,
 }
 
 // Why there is no forecast.
@@ -94,15 +108,6 @@ pub struct Forecast<Number> {
 pub enum Fault {
     HeldUnlawful,
     BaseUnlawful,
-    Memory,
-}
-
-impl From<AllocError> for Fault {
-    ghost from_gives = { λ _ r. r ≡ Memory };
-
-    fn from(_error: AllocError) -> Fault {
-        Fault::Memory
-    }
 }
 
 // The theorem that a sensor which hears every flood has settled by the catch-up count.
@@ -110,16 +115,15 @@ fn settled<N: Settling>(numbering: &N, held: N::Number, base: N::Number)
     ensures { Lawful (N.Numbering.meaning numbering.now) held → Lawful (N.Numbering.meaning numbering.now) base → Settled (N.Numbering.meaning numbering.now) held base (N.Settling.catchup numbering.now held base) }
 {}
 
-// Patience and catch-up count of a sensor that holds `held` under a base that holds `base`, and what
-// it makes of the base's floods until it has caught up, of which at most `most` are listed.
+// Patience and catch-up count of a sensor that holds `held` under a base that holds `base`; and from the
+// catch-up count on, a sensor that hears every flood has settled.
 pub fn foretell<N: Settling>(
-    heap: Global,
     numbering: &N,
     held: N::Number,
     base: N::Number,
-    most: u64,
-) -> Result<Forecast<N::Number>, Fault>
-    ensures { Answers (N.Numbering.meaning numbering.now) (N.Settling.patience numbering.now) (N.Settling.catchup numbering.now) held base most result }
+) -> Result<Forecast, Fault>
+    ensures value { result ≡ foretold (N.Numbering.meaning numbering.now) (N.Settling.patience numbering.now) (N.Settling.catchup numbering.now) held base }
+    ensures settled { IfOk result (λ f. Settled (N.Numbering.meaning numbering.now) held base f.catch_up) }
 {
     if !numbering.lawful(held) {
         return Err(Fault::HeldUnlawful);
@@ -129,10 +133,5 @@ pub fn foretell<N: Settling>(
     }
     settled(numbering, held, base);
     let (patience, catch_up) = numbering.bound(held, base);
-    let floods = hear_floods(heap, numbering, held, base, catch_up.min(most))?;
-    Ok(Forecast {
-        patience,
-        catch_up,
-        floods,
-    })
+    Ok(Forecast { patience, catch_up })
 }
