@@ -1,7 +1,8 @@
 // The program `bound`: a numbering's patience and catch-up count for a sensor, flood by flood.
 #![tactic(auto)]
 
-use inquiry::reply;
+use inquiry::{Reply, reply};
+use page::{size, write};
 use std::process::ExitCode;
 use std::{env, io};
 
@@ -40,9 +41,15 @@ impl From<io::Error> for Failure {
     }
 }
 
+fn print(rt: &HostRuntime, reply: &Reply) -> io::Result<()> {
+    let mut page = vec![in rt.alloc(); 0u8; size(reply)]?;
+    write(reply, &mut page);
+    rt.write_all(&page)
+}
+
 fn answer(rt: &HostRuntime, words: &[String]) -> Result<(), Failure> {
-    match reply(rt.alloc(), words) {
-        Ok(text) => Ok(rt.print(text)?),
+    match reply(words) {
+        Ok(reply) => Ok(print(rt, &reply)?),
         Err(complaint) => {
             eprintln!(rt; "bound: {complaint} (bound --help says how to call it)")?;
             Err(Failure::Told)

@@ -2,10 +2,11 @@
 // A line `windowed WINDOW HELD BASE` asks the same of a numbering made outside the crate of the four.
 #![tactic(auto)]
 
-use inquiry::{Complaint, reply, report};
+use inquiry::{Complaint, Report, reply, report};
+use page::{Text, size, write};
 use std::alloc::{AllocError, Global};
 use std::io;
-use windowed::Windowed;
+use windowed::{Serial, Windowed};
 
 fn words_of(heap: Global, line: &str) -> Result<Vec<String>, AllocError> {
     line.split_whitespace()
@@ -17,22 +18,35 @@ fn windowed_in(word: &str) -> Option<Windowed> {
     Windowed::new(word.parse::<u16>().ok()?)
 }
 
-fn answer(heap: Global, words: &[String]) -> Result<String, Complaint> {
-    match words {
-        [name, window, held, base] if name.as_str() == "windowed" => {
-            let numbering = windowed_in(window.as_str()).ok_or(Complaint::Words)?;
-            report(heap, &numbering, held.as_str(), base.as_str())
+fn report_windowed(
+    window: &str,
+    held: &str,
+    base: &str,
+) -> Result<Report<Windowed, Serial>, Complaint> {
+    let numbering = windowed_in(window).ok_or(Complaint::Words)?;
+    report(numbering, held, base)
+}
+
+fn print<T: Text + Drop>(rt: &HostRuntime, answer: Result<T, Complaint>) -> io::Result<()> {
+    match answer {
+        Ok(text) => {
+            let mut page = vec![in rt.alloc(); 0u8; size(&text)]?;
+            write(&text, &mut page);
+            rt.write_all(&page)
         }
-        _ => reply(heap, words),
+        Err(complaint) => println!(rt; "bound: {complaint}"),
     }
 }
 
 fn run(rt: &HostRuntime, line: &str) -> io::Result<()> {
     println!(rt; "$ bound {line}")?;
     let words = words_of(rt.alloc(), line)?;
-    match answer(rt.alloc(), words.as_slice()) {
-        Ok(text) => rt.print(text),
-        Err(complaint) => println!(rt; "bound: {complaint}"),
+    match words.as_slice() {
+        [name, window, held, base] if name.as_str() == "windowed" => {
+            let answer = report_windowed(window.as_str(), held.as_str(), base.as_str());
+            print(rt, answer)
+        }
+        words => print(rt, reply(words)),
     }
 }
 

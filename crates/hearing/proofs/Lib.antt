@@ -1,2 +1,2 @@
-mod Hears
+pub mod Hears
 mod Settles

@@ -1,7 +1,7 @@
 // What a sensor makes of the floods that it hears, one after another.
 #![tactic(auto)]
 
-ghost use Rattle.std.specs.Prelude.{◌≡◌, Some, IfOk};
+ghost use Rattle.std.specs.Prelude.{◌≡◌, IfOk};
 ghost use Rattle.std.specs.Iterator.{YieldsFirst, item_count};
 ghost use Rattle.hearing.specs.Forecasts.{foretold};
 ghost use Rattle.hearing.specs.Written.{verdict_word};
@@ -9,7 +9,6 @@ ghost use Rattle.hearing.specs.Hearing.{heard, hearing, Settled};
 ghost use Rattle.numbering.specs.Meaning.{Lawful};
 
 use numbering::{Numbering, Settling};
-use std::fmt;
 
 #[derive(Clone, Copy, PartialEq, Eq, Debug)]
 pub enum Verdict {
@@ -17,14 +16,14 @@ pub enum Verdict {
     Refused,
 }
 
-impl fmt::Display for Verdict {
-    ghost output = { λ v. Some (verdict_word v) };
-
-    fn fmt<W: fmt::Write>(&self, f: &mut fmt::Formatter<W>) -> fmt::Result {
-        f.write_str(match self {
+impl Verdict {
+    pub fn word(self) -> &'static str
+        ensures { result.now ≡ verdict_word self }
+    {
+        match self {
             Verdict::Accepted => "accepted",
             Verdict::Refused => "refused",
-        })
+        }
     }
 }
 

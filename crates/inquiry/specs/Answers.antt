@@ -1,13 +1,12 @@
 -- What `bound` answers to its words. Assumes nothing.
-use Rattle.std.specs.Prelude.{◌≡◌, ℕ, ◌^◌, Bool, min, List, Some, None, Ok, Err, string_bytes, Option, Result, String}
-use Rattle.std.specs.declared.alloc.Global.{Global}
+use Rattle.std.specs.Prelude.{ℕ, ◌^◌, Bool, min, List, Some, None, Ok, Err, Option, Result}
 use Rattle.numbering.specs.Four.{free, linear, linear_patience, linear_catch_up, ring, half, circular_fresh, circular_catch_up, differs}
 use Rattle.numbering.specs.Kinds.{below, zero_of}
 use Rattle.numbering.specs.Meaning.{Meaning}
 use Rattle.numbering.specs.declared.kind.NumberKind.{Ghosts as KindOf}
 use Rattle.hearing.specs.Hearing.{hearing}
 use Rattle.inquiry.specs.declared.complaint.Complaint.{Complaint}
-use Rattle.inquiry.specs.declared.complaint.Complaint.TheVariants.{Words, Numbering, Smax, Held, Base, Memory}
+use Rattle.inquiry.specs.declared.complaint.Complaint.TheVariants.{Words, Numbering, Smax, Held, Base}
 use Rattle.inquiry.specs.declared.reading.Name.{Name}
 use Rattle.inquiry.specs.declared.reading.Name.TheVariants.{Free, Linear, Circular, Differentiated}
 use Rattle.inquiry.specs.Reading.{lawful_in, smax_in, named, first_of, pair_of}
@@ -17,15 +16,10 @@ use Rattle.inquiry.specs.Written.{listed, forecast_text, free_text}
 abbrev pub Answer : Type 0
 Answer = Result (List ℕ) Complaint
 
--- r is the answer, unless memory ran out
-abbrev pub Says : Answer → Result (String Global) Complaint → Type 0
-Says answer (Ok text) = answer ≡ Ok (string_bytes text)
-Says answer (Err Memory) = Unit {0}
-Says answer (Err Words) = answer ≡ Err Words
-Says answer (Err Numbering) = answer ≡ Err Numbering
-Says answer (Err Smax) = answer ≡ Err Smax
-Says answer (Err Held) = answer ≡ Err Held
-Says answer (Err Base) = answer ≡ Err Base
+-- the text of what is answered
+abbrev pub texts : {A : Type 0} → (A → List ℕ) → Result A Complaint → Answer
+texts text (Ok a) = Ok (text a)
+texts text (Err e) = Err e
 
 -- the lawful numbers that two words write, the sensor's and the base's
 abbrev pub both_in : {Num : Type 0} → Meaning Num → (ℕ → Option Num) → List ℕ → List ℕ → Result (Num × Num) Complaint

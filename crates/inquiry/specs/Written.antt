@@ -1,13 +1,20 @@
--- The text of a forecast. Assumes nothing.
-use Rattle.std.specs.Prelude.{ℕ, suc, cond, List, [], ◌∷◌, ◌++◌, length, codes, decimal, ◌==◌, nat_lt}
+-- The text of an answer. Assumes nothing.
+use Rattle.std.specs.Prelude.{ℕ, min, cond, List, [], ◌++◌, length, codes, decimal, ◌==◌, nat_lt}
+use Rattle.numbering.specs.Four.{linear, ring, circular_fresh, differs}
+use Rattle.numbering.specs.Meaning.{Meaning}
 use Rattle.hearing.specs.declared.Heard.{Heard}
+use Rattle.hearing.specs.Hearing.{hearing}
 use Rattle.hearing.specs.Written.{verdict_word}
+use Rattle.page.specs.Pages.{joined}
+use Rattle.inquiry.specs.declared.writing.Report.{Report}
+use Rattle.inquiry.specs.declared.writing.Reply.{Reply}
+use Rattle.inquiry.specs.declared.writing.Reply.TheVariants.{Free, Linear, Circular, Differentiated}
 
 -- at most so many floods are listed
 abbrev pub listed : ℕ
 listed = 512
 
-abbrev pub bound_line : ℕ → ℕ → List ℕ
+unfoldable pub bound_line : ℕ → ℕ → List ℕ
 bound_line patience catch_up = codes "patience " ++ (decimal patience ++ (codes ", catch-up " ++ (decimal catch_up ++ codes "\n")))
 
 -- why the list is shorter than the catch-up count
@@ -16,16 +23,29 @@ stop_line catch_up count = cond (nat_lt count catch_up) (cond (count == listed) 
 
 module _ {Num : Type 0} (worth : Num → ℕ) where
   -- the line of a flood, whose place is counted from 1
-  abbrev pub flood_line : ℕ → Heard Num → List ℕ
+  unfoldable pub flood_line : ℕ → Heard Num → List ℕ
   flood_line place flood = codes "flood " ++ (decimal place ++ (codes ": number " ++ (decimal (worth flood.number) ++ (codes " " ++ (verdict_word flood.verdict ++ (codes ", holds " ++ (decimal (worth flood.held) ++ codes "\n")))))))
 
   -- the lines of floods, the first of them at `place`
   abbrev pub flood_lines : ℕ → List (Heard Num) → List ℕ
-  flood_lines place [] = []
-  flood_lines place (flood ∷ floods) = flood_line place flood ++ flood_lines (suc place) floods
+  flood_lines = joined flood_line
 
   abbrev pub forecast_text : ℕ → ℕ → List (Heard Num) → List ℕ
   forecast_text patience catch_up floods = bound_line patience catch_up ++ (flood_lines 1 floods ++ stop_line catch_up (length floods))
 
 abbrev pub free_text : List ℕ
 free_text = codes "free does not settle: it has no patience and no catch-up count\n"
+
+-- the floods that a report lists
+abbrev pub listed_floods : {N Num : Type 0} → (N → Meaning Num) → Report N Num → List (Heard Num)
+listed_floods meaning r = hearing (meaning r.numbering) (min r.forecast.catch_up listed) r.held r.base
+
+-- the text of a report, and of a reply in each of the four numberings
+abbrev pub report_text : {N Num : Type 0} → (N → Meaning Num) → (Num → ℕ) → Report N Num → List ℕ
+report_text meaning worth r = forecast_text worth r.forecast.patience r.forecast.catch_up (listed_floods meaning r)
+
+abbrev pub reply_text : Reply → List ℕ
+reply_text Free = free_text
+reply_text (Linear report) = report_text (λ m. linear) (λ x. x) report
+reply_text (Circular report) = report_text (λ m. ring m.ring.smax (circular_fresh m.ring.smax)) (λ x. x) report
+reply_text (Differentiated report) = report_text (λ m. ring m.ring.smax differs) (λ x. x) report

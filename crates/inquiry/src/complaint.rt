@@ -1,6 +1,6 @@
 // Why there is no answer.
 ghost use Rattle.std.specs.Prelude.{◌≡◌, Some};
-ghost use Rattle.inquiry.specs.Complaints.{of_fault, memory, complaint_text};
+ghost use Rattle.inquiry.specs.Complaints.{of_fault, complaint_text};
 
 use hearing::Fault;
 use std::fmt;
@@ -12,7 +12,6 @@ pub enum Complaint {
     Smax,
     Held,
     Base,
-    Memory,
 }
 
 impl From<Fault> for Complaint {
@@ -22,17 +21,7 @@ impl From<Fault> for Complaint {
         match fault {
             Fault::HeldUnlawful => Complaint::Held,
             Fault::BaseUnlawful => Complaint::Base,
-            Fault::Memory => Complaint::Memory,
         }
-    }
-}
-
-// Text is written to memory only, so what stops it is want of memory.
-impl From<fmt::Error> for Complaint {
-    ghost from_gives = { λ _ r. r ≡ memory };
-
-    fn from(_error: fmt::Error) -> Complaint {
-        Complaint::from(Fault::Memory)
     }
 }
 
@@ -48,7 +37,6 @@ impl Complaint {
             Complaint::Smax => "SMAX is not a number from 2 to 255",
             Complaint::Held => "HELD is not a lawful number of the numbering",
             Complaint::Base => "BASE is not a lawful number of the numbering",
-            Complaint::Memory => "out of memory",
         }
     }
 }

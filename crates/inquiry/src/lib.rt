@@ -8,3 +8,4 @@ mod writing;
 
 pub use complaint::Complaint;
 pub use replies::{reply, report};
+pub use writing::{Reply, Report};

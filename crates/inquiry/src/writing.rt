@@ -1,30 +1,52 @@
-// A forecast as text.
-ghost use Rattle.std.specs.Prelude.{◌≡◌, true, ◌++◌, is_ok, string_bytes};
-ghost use Rattle.inquiry.specs.Written.{flood_lines, stop_line, forecast_text};
+// Answers as text.
+ghost use Rattle.std.specs.Prelude.{◌≡◌, length};
+ghost use Rattle.page.specs.Pens.{Wrote};
+ghost use Rattle.inquiry.specs.Written.{bound_line, stop_line, flood_line, flood_lines, listed_floods, report_text, reply_text};
 
-use hearing::{Forecast, Heard};
-use numbering::NumberKind;
-use std::fmt;
-use std::fmt::Write;
+use hearing::{Forecast, Heard, hear_floods};
+use numbering::{Circular, Differentiated, Linear, NumberKind, Settling};
+use page::{Pen, Text};
 
 // At most so many floods are listed.
-pub const LISTED: u64 = 512;
+const LISTED: u64 = 512;
 
-// A line for each flood, the first with place 1.
-fn write_floods<K: NumberKind>(text: &mut String, floods: &[Heard<K>]) -> fmt::Result
-    ensures { is_ok result ≡ true → string_bytes text.new ≡ string_bytes text.old ++ flood_lines K.NumberKind.worth 1 floods.now }
+// What is told of a sensor that holds one number under a base that holds another.
+#[derive(Clone, Copy)]
+pub struct Report<N, Number> {
+    pub numbering: N,
+    pub held: Number,
+    pub base: Number,
+    pub forecast: Forecast,
+}
+
+#[tactic(auto, unfolding(crate::specs::Written::bound_line))]
+fn put_bound(pen: &mut Pen, forecast: Forecast)
+    ensures { Wrote pen.old pen.new (bound_line forecast.patience forecast.catch_up) }
 {
-    for (i, flood) in floods.iter().enumerate() {
-        let number = flood.number.value();
-        let verdict = flood.verdict;
-        let held = flood.held.value();
-        writeln!(
-            text,
-            "flood {}: number {number} {verdict}, holds {held}",
-            i + 1
-        )?;
-    }
-    Ok(())
+    pen.line(&[
+        "patience ".into(),
+        forecast.patience.into(),
+        ", catch-up ".into(),
+        forecast.catch_up.into(),
+        "\n".into(),
+    ])
+}
+
+#[tactic(auto, unfolding(crate::specs::Written::flood_line))]
+fn put_flood<K: NumberKind>(pen: &mut Pen, place: u64, flood: Heard<K>)
+    ensures { Wrote pen.old pen.new (flood_line K.NumberKind.worth place flood) }
+{
+    pen.line(&[
+        "flood ".into(),
+        place.into(),
+        ": number ".into(),
+        flood.number.value().into(),
+        " ".into(),
+        flood.verdict.word().into(),
+        ", holds ".into(),
+        flood.held.value().into(),
+        "\n".into(),
+    ])
 }
 
 fn stop_line(catch_up: u64, count: u64) -> &'static str
@@ -39,16 +61,51 @@ fn stop_line(catch_up: u64, count: u64) -> &'static str
     }
 }
 
-// Patience and catch-up count, then a line for each flood. No `Display` of the forecast: where the
-// list stops is this crate's own limit.
-pub fn write_forecast<K: NumberKind>(text: &mut String, forecast: &Forecast<K>) -> fmt::Result
-    ensures { is_ok result ≡ true → string_bytes text.new ≡ string_bytes text.old ++ forecast_text K.NumberKind.worth forecast.now.patience forecast.now.catch_up forecast.now.floods.items }
+// A line for each flood that is listed; answers how many they are.
+fn put_floods<N: Settling>(pen: &mut Pen, report: &Report<N, N::Number>) -> u64
+    ensures lines { Wrote pen.old pen.new (flood_lines N.Number.NumberKind.worth 1 (listed_floods N.Numbering.meaning report.now)) }
+    ensures count { result ≡ length (listed_floods N.Numbering.meaning report.now) }
 {
-    writeln!(
-        text,
-        "patience {}, catch-up {}",
-        forecast.patience, forecast.catch_up
-    )?;
-    write_floods(text, forecast.floods.as_slice())?;
-    text.write_str(stop_line(forecast.catch_up, forecast.floods.len() as u64))
+    let most = report.forecast.catch_up.min(LISTED);
+    let mut count = 0;
+    for flood in hear_floods(&report.numbering, report.held, report.base, most) {
+        count += 1;
+        put_flood(pen, count, flood);
+    }
+    count
+}
+
+// Patience and catch-up count, then a line for each flood.
+impl<N: Settling> Text for Report<N, N::Number> {
+    ghost text = { report_text N.Numbering.meaning N.Number.NumberKind.worth };
+
+    fn put(&self, pen: &mut Pen) {
+        put_bound(pen, self.forecast);
+        let count = put_floods(pen, self);
+        pen.bytes(stop_line(self.forecast.catch_up, count).as_bytes())
+    }
+}
+
+// What is answered in each of the four numberings; of free there is nothing to report.
+#[derive(Clone, Copy)]
+pub enum Reply {
+    Free,
+    Linear(Report<Linear, u32>),
+    Circular(Report<Circular, u8>),
+    Differentiated(Report<Differentiated, u8>),
+}
+
+impl Text for Reply {
+    ghost text = { reply_text };
+
+    fn put(&self, pen: &mut Pen) {
+        match self {
+            Reply::Free => pen.bytes(
+                "free does not settle: it has no patience and no catch-up count\n".as_bytes(),
+            ),
+            Reply::Linear(report) => report.put(pen),
+            Reply::Circular(report) => report.put(pen),
+            Reply::Differentiated(report) => report.put(pen),
+        }
+    }
 }

@@ -46,3 +46,11 @@ module _ {A : Type 0} (text : ℕ → A → List ℕ) where
   wrote_more xs i x d e h first second =
       let one = joined_more 0 i xs x d h e in
       rw (add-one i, one, zero-add i) (wrote_then first second)
+
+  joined_last : (place : ℕ) (xs : List A) (x : A) → joined text place (xs ++ (x ∷ [])) ≡ joined text place xs ++ text (place + length xs) x
+  joined_last place [] x = rw (add-zero place) (append-nil (text place x))
+  joined_last place (y ∷ ys) x = rw (joined_last (suc place) ys x, suc-add place (length ys), add-suc place (length ys)) (sym (append_assoc (text place y) _ _))
+
+  -- the text of one item more, behind those of the items before it
+  pub wrote_last : {old mid new : Pen} (place i : ℕ) (xs : List A) (x : A) → i ≡ place + length xs → Wrote old mid (joined text place xs) → Wrote mid new (text i x) → Wrote old new (joined text place (xs ++ (x ∷ [])))
+  wrote_last place i xs x behind first second = rw (joined_last place xs x, sym behind) (wrote_then first second)

@@ -84,6 +84,14 @@ impl From<u32> for Piece<'_> {
     }
 }
 
+impl From<u64> for Piece<'_> {
+    ghost from_gives = { λ n r. r ≡ Number n };
+
+    fn from(n: u64) -> Self {
+        Piece::Number(n)
+    }
+}
+
 impl<'a> Text for Piece<'a> {
     ghost text = { piece_text };
 

@@ -1,0 +1,14 @@
+-- The floods that a report lists, one by one. Assumes nothing.
+use Rattle.std.proofs.Common.{◌≡◌, suc, ◌+◌, ◌<◌, min, List, ◌∷◌, ◌++◌, length, length-append, sym, ap, ◌∙◌, arith}
+use Rattle.numbering.specs.Meaning.{Meaning}
+use Rattle.hearing.specs.declared.Heard.{Heard}
+use Rattle.hearing.proofs.Hears.{hearing_most}
+use Rattle.inquiry.specs.declared.writing.Report.{Report}
+use Rattle.inquiry.specs.Written.{listed, listed_floods}
+
+-- fewer are told than are listed while one is left
+pub one_left : {N Num : Type 0} (meaning : N → Meaning Num) (r : Report N Num) (told rest : List (Heard Num)) (flood : Heard Num) → told ++ (flood ∷ rest) ≡ listed_floods meaning r → length told < listed
+one_left meaning r told rest flood e =
+    let most = hearing_most (meaning r.numbering) (min r.forecast.catch_up listed) r.held r.base in
+    let all : length told + suc (length rest) ≡ length (listed_floods meaning r) = sym (length-append told (flood ∷ rest)) ∙ ap length e in
+    omega (arith, most, all)
