@@ -61,7 +61,15 @@ fn stop_line(catch_up: u64, count: u64) -> &'static str
     }
 }
 
+#[tactic(auto, using(page::proofs::Wrotes::wrote_as))]
+fn put_stop(pen: &mut Pen, forecast: Forecast, count: u64)
+    ensures { Wrote pen.old pen.new (stop_line forecast.catch_up count) }
+{
+    pen.bytes(stop_line(forecast.catch_up, count).as_bytes())
+}
+
 // A line for each flood that is listed; answers how many they are.
+#[tactic(auto, using(page::proofs::Wrotes::wrote_nothing, crate::proofs::Listed::one_left))]
 fn put_floods<N: Settling>(pen: &mut Pen, report: &Report<N, N::Number>) -> u64
     ensures lines { Wrote pen.old pen.new (flood_lines N.Number.NumberKind.worth 1 (listed_floods N.Numbering.meaning report.now)) }
     ensures count { result ≡ length (listed_floods N.Numbering.meaning report.now) }
@@ -82,7 +90,7 @@ impl<N: Settling> Text for Report<N, N::Number> {
     fn put(&self, pen: &mut Pen) {
         put_bound(pen, self.forecast);
         let count = put_floods(pen, self);
-        pen.bytes(stop_line(self.forecast.catch_up, count).as_bytes())
+        put_stop(pen, self.forecast, count)
     }
 }
 

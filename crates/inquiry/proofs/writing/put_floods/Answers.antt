@@ -1,22 +1,8 @@
-use Rattle.std.proofs.Common.{◌≡◌, ◌+◌, ◌<◌, [], ◌∷◌, ◌++◌, List, refl, ap, ◌∙◌, append_assoc, length, length-append, arith, rules}
-use Rattle.page.proofs.Wrotes.{wrote_nothing, wrote_last}
+use Rattle.std.proofs.Common.{◌≡◌, ◌+◌, [], ◌∷◌, ◌++◌, List, ap, ◌∙◌, append_assoc, length, length-append, arith, rules}
+use Rattle.page.proofs.Wrotes.{wrote_last}
 use Rattle.hearing.specs.Hearing.{hearing}
-use Rattle.inquiry.specs.Written.{listed, flood_line}
-use Rattle.inquiry.proofs.Listed.{one_left}
+use Rattle.inquiry.specs.Written.{flood_line}
 use Rattle.inquiry.proofs.writing.put_floods.Goals as goal
-
-pub loop-flood-init : goal.loop-flood-init
-loop-flood-init g c = (tt, tt, search rules, refl, wrote_nothing c.args.pen.now)
-
-pub overflow_add-count : goal.overflow_add-count
-overflow_add-count g c =
-    let meaning = g.N.Numbering.meaning in
-    let floods = c.next.new.self in
-    let before = c.loop-flood.invariant in
-    let told = c.loop-flood.yielded in
-    let rest = hearing (meaning floods.numbering.now) floods.left floods.held floods.base in
-    let left : length told < listed = one_left meaning c.args.report.now told rest c.in-Some.flood (ap (λ (more : List _). told ++ more) (search rules) ∙ before.2) in
-    omega (arith, left, before.3)
 
 pub loop-flood-preserved : goal.loop-flood-preserved
 loop-flood-preserved g c =
