@@ -1,12 +1,17 @@
 -- The bytes of a record, one by one, and numbers cut into bytes again. Assumes nothing.
 use Rattle.std.proofs.Common.{◌≡◌, ℕ, zero, suc, ◌+◌, ◌*◌, ◌/◌, ◌%◌, ◌<◌, ◌≤◌, Bool, true, false, cond, eqb, List, [], ◌∷◌, length, get_or, take, drop, Some, None, sym, refl, ap, ◌∙◌, add-zero, arith, eqb-true}
 use Rattle.std.proofs.lemmas.List.{drop_more}
-use Rattle.records.specs.Records.{byte, two_bytes, four_bytes}
-use Rattle.checking.specs.Cases.{mark_at, link_at}
+use Rattle.records.specs.Records.{byte, two_bytes, four_bytes, is_kind}
+use Rattle.checking.specs.Cases.{mark_at, link_at, not_zero}
 use Rattle.reading.specs.Items.{loss_at}
+use Rattle.records.specs.declared.Kind.{Kind}
+use Rattle.records.specs.declared.Kind.TheVariants.{Sensor, Link, Loss, Play}
+use Rattle.records.specs.Kinds.{letter}
 use Rattle.field.specs.declared.Settings.{Settings}
 use Rattle.field.specs.Making.{HasSettings}
-use Rattle.recording.specs.Records.{with_two, with_four, mark_byte, head_record, sensor_record, link_record, loss_record}
+use Rattle.loading.specs.Kept.{Bytes}
+use Rattle.recording.specs.Records.{with_two, with_four, mark_byte, head_record, sensor_record, link_record, loss_record, middle_record, play_record}
+use Rattle.loading.proofs.Cuts.{MiddleZeroed, kind_is, sensor_zeroed, link_zeroed, loss_zeroed, play_zeroed}
 
 -- n bytes from place d + i on
 abbrev pub bytes_at : ℕ → ℕ → ℕ → List ℕ → List ℕ
@@ -48,33 +53,48 @@ mark_back b = by (eqb b 255) refl
     by true e = sym (eqb-true b 255 e)
     by false e = refl
 
--- every byte of a file fits in eight bits
-abbrev pub Bytes : List ℕ → Type 0
-Bytes file = (i : ℕ) → get_or file i 0 < 256
-
-module _ (file : List ℕ) (k : ℕ) (fits : Bytes file) where
+module _ (file : List ℕ) (k : ℕ) (fits : Bytes file) (there : 12 * k + 12 ≤ length file) where
   abbrev b : ℕ → ℕ
   b at = byte file k at
 
   small : (at : ℕ) → b at < 256
   small at = fits (12 * k + at)
 
-  pub sensor_back : b 0 ≡ 83 → b 3 ≡ 0 → b 6 ≡ 0 → b 7 ≡ 0 → sensor_record (b 1) (mark_at file k) (two_bytes file k 4) (four_bytes file k 8) ≡ bytes_at 12 (12 * k) 0 file
-  sensor_back kind three six seven =
-      let number = four_back (b 8) (b 9) (b 10) (b 11) [] (small 9) (small 10) (small 11) in
-      let timer = two_back (b 4) (b 5) (0 ∷ 0 ∷ b 8 ∷ b 9 ∷ b 10 ∷ b 11 ∷ []) (small 5) in
-      rw (mark_back (b 2)) (rw number (rw timer (rw (kind, three, six, seven))))
+  chunked : bytes_at 12 (12 * k) 0 file ≡ chunk k file
+  chunked = sym (chunk_bytes k file there)
 
-  pub link_back : b 0 ≡ 76 → b 4 ≡ 0 → b 5 ≡ 0 → b 6 ≡ 0 → b 7 ≡ 0 → b 8 ≡ 0 → b 9 ≡ 0 → b 10 ≡ 0 → b 11 ≡ 0 → link_record (link_at file k) ≡ bytes_at 12 (12 * k) 0 file
-  link_back kind four five six seven eight nine ten eleven = rw (kind, four, five, six, seven, eight, nine, ten, eleven)
-
-  pub loss_back : b 0 ≡ 88 → b 3 ≡ 0 → b 8 ≡ 0 → b 9 ≡ 0 → b 10 ≡ 0 → b 11 ≡ 0 → loss_record (loss_at file k) ≡ bytes_at 12 (12 * k) 0 file
-  loss_back kind three eight nine ten eleven =
-      let instant = four_back (b 4) (b 5) (b 6) (b 7) (0 ∷ 0 ∷ 0 ∷ 0 ∷ []) (small 5) (small 6) (small 7) in
-      rw instant (rw (kind, three, eight, nine, ten, eleven))
-
-  pub head_back : (s : Settings) → HasSettings (b 2) (b 3) (b 4) (two_bytes file k 6) (four_bytes file k 8) s → b 0 ≡ 70 → head_record (b 1) (b 5) s ≡ bytes_at 12 (12 * k) 0 file
+  pub head_back : (s : Settings) → HasSettings (b 2) (b 3) (b 4) (two_bytes file k 6) (four_bytes file k 8) s → b 0 ≡ 70 → head_record (b 1) (b 5) s ≡ chunk k file
   head_back s has kind =
       let seed = four_back (b 8) (b 9) (b 10) (b 11) [] (small 9) (small 10) (small 11) in
       let period = two_back (b 6) (b 7) (b 8 ∷ b 9 ∷ b 10 ∷ b 11 ∷ []) (small 7) in
-      rw (has.n_is, has.hmax_is, has.tmax_is, has.f_is, has.seed_is) (rw seed (rw period (rw kind)))
+      rw (has.n_is, has.hmax_is, has.tmax_is, has.f_is, has.seed_is) (rw seed (rw period (rw kind at chunked)))
+
+  -- the records of the other kinds, by the bytes that must be zero in them
+  module _ (right : not_zero file k ≡ false) where
+    pub sensor_back : is_kind file k Sensor ≡ true → sensor_record (b 1) (mark_at file k) (two_bytes file k 4) (four_bytes file k 8) ≡ chunk k file
+    sensor_back is =
+        let zeros = sensor_zeroed file k right is in
+        let number = four_back (b 8) (b 9) (b 10) (b 11) [] (small 9) (small 10) (small 11) in
+        let timer = two_back (b 4) (b 5) (0 ∷ 0 ∷ b 8 ∷ b 9 ∷ b 10 ∷ b 11 ∷ []) (small 5) in
+        rw (mark_back (b 2)) (rw number (rw timer (rw (kind_is file k Sensor is, zeros.0, zeros.1, zeros.2) at chunked)))
+
+    pub link_back : is_kind file k Link ≡ true → link_record (link_at file k) ≡ chunk k file
+    link_back is =
+        let zeros = link_zeroed file k right is in
+        let tail = zeros.4 in
+        rw (kind_is file k Link is, zeros.0, zeros.1, zeros.2, zeros.3, tail.eight, tail.nine, tail.ten, tail.eleven) at chunked
+
+    middle_back : (kind : Kind) → is_kind file k kind ≡ true → MiddleZeroed file k → middle_record (letter kind) (b 1) (b 2) (four_bytes file k 4) ≡ chunk k file
+    middle_back kind is zeros =
+        let tail = zeros.tail in
+        let number = four_back (b 4) (b 5) (b 6) (b 7) (0 ∷ 0 ∷ 0 ∷ 0 ∷ []) (small 5) (small 6) (small 7) in
+        rw number (rw (kind_is file k kind is, zeros.three, tail.eight, tail.nine, tail.ten, tail.eleven) at chunked)
+
+    pub loss_back : is_kind file k Loss ≡ true → loss_record (loss_at file k) ≡ chunk k file
+    loss_back is = middle_back Loss is (loss_zeroed file k right is)
+
+    pub play_back : is_kind file k Play ≡ true → play_record (four_bytes file k 4) ≡ chunk k file
+    play_back is =
+        let zeros = play_zeroed file k right is in
+        let same = middle_back Play is zeros.2 in
+        rw (zeros.0, zeros.1) at same

@@ -1,7 +1,8 @@
-mod Admitted
+mod Acts
 mod Chunks
 mod Cuts
-mod WrittenBack
 mod Parted
 mod Returns
+mod Roomy
 mod Sections
+mod WrittenBack

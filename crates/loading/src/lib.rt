@@ -2,7 +2,8 @@
 #![tactic(auto)]
 
 mod counts;
-mod loads;
+mod field_file;
+mod items;
 
 pub use counts::Counts;
-pub use loads::{Loaded, load};
+pub use field_file::{FieldFile, FileUnder};

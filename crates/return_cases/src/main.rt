@@ -1,11 +1,10 @@
 // Loads each file that standard input names, and writes it back: says whether the bytes are the same.
 #![tactic(auto)]
 
-use field::{Act, Link, Loss, Row, Rules};
-use filed::{FileNumbering, Filed};
-use loading::{Loaded, load};
+use field::{Act, Link, Loss, Row};
+use filed::Filed;
+use loading::{FieldFile, FileUnder};
 use numbering::NumberKind;
-use records::Record;
 use refusal::RunFault;
 use std::{fs, io};
 use vetting::Draft;
@@ -47,50 +46,40 @@ const LOSS: Loss = Loss {
 };
 
 // Is a file the same once it is loaded and written?
-fn comes_back<N: Filed>(rt: &HostRuntime, numbering: &N, file: &[u8]) -> io::Result<bool> {
+fn comes_back<N: Filed>(rt: &HostRuntime, field: &FileUnder<N>, file: &[u8]) -> io::Result<bool> {
     let alloc = rt.alloc();
     let Some(row) = blank() else {
         return Ok(false);
     };
-    let mut rows = vec![in alloc; row; 200]?;
-    let mut links = vec![in alloc; LINK; 1024]?;
-    let mut losses = vec![in alloc; LOSS; 256]?;
-    let mut acts = vec![in alloc; Act::Play(0); 4000]?;
-    let mut page = vec![in alloc; 0u8; 48000]?;
-    let Ok(Loaded { settings, counts }) = load(
-        numbering,
-        file,
-        &mut rows,
-        &mut links,
-        &mut losses,
-        &mut acts,
-    ) else {
+    let counts = field.counts();
+    let mut rows = vec![in alloc; row; counts.rows]?;
+    let mut links = vec![in alloc; LINK; counts.links]?;
+    let mut losses = vec![in alloc; LOSS; counts.losses]?;
+    let mut acts = vec![in alloc; Act::Play(0); counts.acts]?;
+    let mut page = vec![in alloc; 0u8; file.len()]?;
+    if field
+        .fill(&mut rows, &mut links, &mut losses, &mut acts)
+        .is_err()
+    {
         return Ok(false);
-    };
+    }
     let draft = Draft {
-        rules: Rules {
-            numbering,
-            settings,
-        },
+        rules: field.rules(),
         rows: &rows,
-        links: links.get(..counts.links).unwrap_or(&links),
-        losses: losses.get(..counts.losses).unwrap_or(&losses),
+        links: &links,
+        losses: &losses,
     };
-    let acts = acts.get(..counts.acts).unwrap_or(&acts);
-    let size = written(&draft, acts, &mut page);
+    let size = written(&draft, &acts, &mut page);
     Ok(size.is_ok_and(|size| page.get(..size) == Some(file)))
 }
 
 fn returns(rt: &HostRuntime, file: &[u8]) -> io::Result<bool> {
-    let head = Record { file, place: 0 };
-    let Some(numbering) = FileNumbering::new(head.byte(1), head.byte(5)) else {
-        return Ok(false);
-    };
-    match numbering {
-        FileNumbering::Free(numbering) => comes_back(rt, &numbering, file),
-        FileNumbering::Linear(numbering) => comes_back(rt, &numbering, file),
-        FileNumbering::Circular(numbering) => comes_back(rt, &numbering, file),
-        FileNumbering::Differentiated(numbering) => comes_back(rt, &numbering, file),
+    match FieldFile::new(file) {
+        Ok(FieldFile::Free(field)) => comes_back(rt, &field, file),
+        Ok(FieldFile::Linear(field)) => comes_back(rt, &field, file),
+        Ok(FieldFile::Circular(field)) => comes_back(rt, &field, file),
+        Ok(FieldFile::Differentiated(field)) => comes_back(rt, &field, file),
+        Err(_) => Ok(false),
     }
 }
 
