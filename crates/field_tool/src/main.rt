@@ -1,6 +1,9 @@
 // The program `field_tool`: a field file as a listing, for an author before a sitting.
 #![tactic(auto)]
 
+mod make;
+
+use crate::make::make;
 use checking::check_file;
 use listing::Listing;
 use page::{size, write};
@@ -10,8 +13,9 @@ use std::process::ExitCode;
 use std::{env, fs, io};
 
 const USAGE: &str = "usage: field_tool show FILE
+       field_tool make LISTING
 
-Prints a field file as a listing, a line for each of its records:
+show prints a field file as a listing, a line for each of its records:
 
   field NUMBERING smax S sensors N hmax H tmax T f F seed D
   sensor K timer T holds V mark M        a row; M is a hop count, or none
@@ -20,12 +24,18 @@ Prints a field file as a listing, a line for each of its records:
   play B                                 B instants are to be played
   damage K timer T holds V mark M        a sensor's row overwritten
 
-FILE is - for standard input. Where the file is no field, the one line is
+Where the file is no field, the one line is
 
   refusal NUMBER PLACE
 
-and standard error says what is wrong and where. A refusal, and a file that
-cannot be read, end with status 1.
+and standard error says what is wrong and where.
+
+make reads such a listing and writes the field file on standard output. Where a
+line is not understood, or the lines are no field, nothing is written, and
+standard error tells the line.
+
+FILE and LISTING are - for standard input. A refusal, a bad listing and a file
+that cannot be read end with status 1.
 ";
 
 fn contents(rt: &HostRuntime, name: &str) -> io::Result<Vec<u8>> {
@@ -72,8 +82,9 @@ fn main(rt: HostRuntime) -> io::Result<ExitCode> {
             Ok(ExitCode::SUCCESS)
         }
         [word, name] if word.as_str() == "show" => show(&rt, name),
+        [word, name] if word.as_str() == "make" => make(&rt, name),
         _ => {
-            eprintln!(rt; "field_tool: it is called as field_tool show FILE, or with --help")?;
+            eprintln!(rt; "field_tool: it is called as show FILE, make LISTING, or --help")?;
             Ok(ExitCode::FAILURE)
         }
     }

@@ -16,7 +16,6 @@ fn judge(rt: &HostRuntime, name: &str) -> io::Result<()> {
     }
 }
 
-// `return_cases` has the same loop: a crate for it would be longer.
 fn main(rt: HostRuntime) -> io::Result<()> {
     for name in rt.lines(rt.alloc()) {
         let name = name?;

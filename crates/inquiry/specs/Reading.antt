@@ -1,17 +1,11 @@
--- The number that a word writes. Assumes nothing.
+-- What stands in words. Assumes nothing.
 use Rattle.std.specs.Bool.{then_some}
-use Rattle.std.specs.Prelude.{ℕ, ◌^◌, cond, ◌&&◌, List, [], ◌∷◌, length, Some, None, codes, Option, nat_le, nat_lt}
-use Rattle.std.specs.Str.Parse.{digits_value, without_leading_plus}
-use Rattle.std.specs.Str.{all_ascii_digits, bytes_eq}
+use Rattle.std.specs.Prelude.{ℕ, cond, ◌&&◌, List, [], ◌∷◌, Some, None, codes, Option, nat_le}
+use Rattle.std.specs.Str.{bytes_eq}
+use Rattle.words.specs.Numbers.{number_in}
 use Rattle.inquiry.specs.declared.reading.Name.{Name}
 use Rattle.inquiry.specs.declared.reading.Name.TheVariants.{Free, Linear, Circular, Differentiated}
 use Rattle.numbering.specs.Meaning.{Meaning}
-
--- decimal digits, after a plus sign or none, of a number of 32 bits
-abbrev pub number_in : List ℕ → Option ℕ
-number_in word =
-    let digits = without_leading_plus word in
-    then_some ((nat_lt 0 (length digits) && all_ascii_digits digits) && nat_lt (digits_value 10 digits) (2 ^ 32)) (digits_value 10 digits)
 
 -- the lawful number that a word writes, in a kind whose number of a value is `of`
 abbrev pub lawful_in : {Num : Type 0} → Meaning Num → (ℕ → Option Num) → List ℕ → Option Num

@@ -2,11 +2,12 @@
 ghost use Rattle.std.specs.Prelude.{◌≡◌, map, None, string_bytes, MatchOption, MatchResult};
 ghost use Rattle.std.specs.Option.{ok_or};
 ghost use Rattle.inquiry.specs.declared.complaint.Complaint.TheVariants.{Words, Numbering as NoNumbering};
-ghost use Rattle.inquiry.specs.Reading.{first_of, pair_of, named, number_in, lawful_in, smax_in};
+ghost use Rattle.inquiry.specs.Reading.{first_of, pair_of, named, lawful_in, smax_in};
 
 use crate::complaint::Complaint;
 use numbering::{NumberKind, Numbering, Ringed, Rule};
 use std::str::FromStr;
+use words::number_in;
 
 // The first word, and the words after it.
 pub fn first_of(words: &[String]) -> Result<(&str, &[String]), Complaint>
@@ -49,14 +50,6 @@ impl FromStr for Name {
             _ => Err(Complaint::Numbering),
         }
     }
-}
-
-// The number of 32 bits that a word writes in decimal.
-#[tactic(auto, using(crate::proofs::Numbers::reads_number))]
-pub fn number_in(word: &str) -> Option<u32>
-    ensures { result ≡ number_in word.now }
-{
-    word.parse::<u32>().ok()
 }
 
 // The lawful number of a numbering that a word writes.

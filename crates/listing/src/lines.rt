@@ -6,6 +6,7 @@ ghost use Rattle.listing.specs.Lines.{numbering_name, mark_words, field_line, ro
 
 use field::{Link, Loss};
 use page::{Pen, Piece};
+use recording::{Head, Sensor};
 
 // By the code's byte: any file has a listing, also one whose code is none of the four.
 fn numbering_name(code: u8) -> &'static str
@@ -17,18 +18,6 @@ fn numbering_name(code: u8) -> &'static str
         2 => "circular",
         _ => "differentiated",
     }
-}
-
-// The numbers of a file's first record, as they stand: `Settings` takes none that break a limit.
-#[derive(Clone, Copy)]
-pub struct Head {
-    pub code: u8,
-    pub smax: u8,
-    pub n: u8,
-    pub hmax: u8,
-    pub tmax: u8,
-    pub f: u16,
-    pub seed: u32,
 }
 
 #[tactic(auto, unfolding(crate::specs::Lines::field_line))]
@@ -63,21 +52,21 @@ fn mark_piece(mark: Option<u8>) -> Piece<'static>
     }
 }
 
-// Four numbers apart: a row tells no sensor, and a listing has bytes, not numbers of a kind.
+// A row, or a damage, by its first word.
 #[tactic(auto, unfolding(crate::specs::Lines::row_line))]
-pub fn put_row(pen: &mut Pen, word: &str, sensor: u8, timer: u16, value: u32, mark: Option<u8>)
-    ensures { Wrote pen.old pen.new (row_line word.now sensor timer value mark) }
+pub fn put_row(pen: &mut Pen, word: &str, sensor: Sensor)
+    ensures { Wrote pen.old pen.new (row_line word.now sensor.sensor sensor.timer sensor.value sensor.mark) }
 {
     pen.line(&[
         word.into(),
         " ".into(),
-        sensor.into(),
+        sensor.sensor.into(),
         " timer ".into(),
-        timer.into(),
+        sensor.timer.into(),
         " holds ".into(),
-        value.into(),
+        sensor.value.into(),
         " mark ".into(),
-        mark_piece(mark),
+        mark_piece(sensor.mark),
         "\n".into(),
     ])
 }

@@ -3,10 +3,11 @@ ghost use Rattle.page.specs.Pens.{Wrote};
 ghost use Rattle.records.specs.Records.{records};
 ghost use Rattle.listing.specs.Lines.{head_line, sensor_line, record_line, lines};
 
-use crate::lines::{Head, put_field, put_link, put_loss, put_play, put_row};
+use crate::lines::{put_field, put_link, put_loss, put_play, put_row};
 use checking::{link_at, mark_at};
 use page::{Pen, Text};
 use reading::loss_at;
+use recording::{Head, Sensor};
 use records::{Kind, Record, record_count};
 
 fn put_head(pen: &mut Pen, file: &[u8])
@@ -28,14 +29,13 @@ fn put_head(pen: &mut Pen, file: &[u8])
 fn put_sensor(pen: &mut Pen, word: &str, here: Record)
     ensures { Wrote pen.old pen.new (sensor_line here.entry.file.now word.now here.entry.place) }
 {
-    put_row(
-        pen,
-        word,
-        here.byte(1),
-        here.two_bytes(4),
-        here.four_bytes(8),
-        mark_at(here),
-    )
+    let sensor = Sensor {
+        sensor: here.byte(1),
+        timer: here.two_bytes(4),
+        value: here.four_bytes(8),
+        mark: mark_at(here),
+    };
+    put_row(pen, word, sensor)
 }
 
 fn put_record(pen: &mut Pen, here: Record)

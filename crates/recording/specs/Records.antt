@@ -6,6 +6,8 @@ use Rattle.field.specs.declared.Link.{Link}
 use Rattle.field.specs.declared.Loss.{Loss}
 use Rattle.field.specs.declared.Row.{Row}
 use Rattle.field.specs.declared.Settings.{Settings}
+use Rattle.recording.specs.declared.plain.Head.{Head}
+use Rattle.recording.specs.declared.plain.Sensor.{Sensor}
 
 -- numbers are big-endian
 abbrev pub with_two : ℕ → List ℕ → List ℕ
@@ -23,12 +25,21 @@ mark_byte None = 255
 mark_byte (Some hop) = hop
 
 -- the first record: F, the numbering's code, n, hmax, tmax, the numbering's smax, f, and the seed
+abbrev pub head_bytes : Head → List ℕ
+head_bytes head = 70 ∷ head.code ∷ head.n ∷ head.hmax ∷ head.tmax ∷ head.smax ∷ with_two head.f (with_four head.seed [])
+
+abbrev pub head_of : ℕ → ℕ → Settings → Head
+head_of code smax s = record { code = code; smax = smax; n = s.n; hmax = s.hmax; tmax = s.tmax; f = s.f; seed = s.seed }
+
 abbrev pub head_record : ℕ → ℕ → Settings → List ℕ
-head_record code smax s = 70 ∷ code ∷ s.n ∷ s.hmax ∷ s.tmax ∷ smax ∷ with_two s.f (with_four s.seed [])
+head_record code smax s = head_bytes (head_of code smax s)
 
 -- a row or a damage: S, the sensor, its mark, its timer and the value of the number that it holds
 abbrev pub sensor_record : ℕ → Option ℕ → ℕ → ℕ → List ℕ
 sensor_record sensor mark timer value = 83 ∷ sensor ∷ mark_byte mark ∷ 0 ∷ with_two timer (0 ∷ 0 ∷ with_four value [])
+
+abbrev pub sensor_bytes : Sensor → List ℕ
+sensor_bytes s = sensor_record s.sensor s.mark s.timer s.value
 
 abbrev pub link_record : Link → List ℕ
 link_record link = 76 ∷ link.from ∷ link.to ∷ link.label ∷ 0 ∷ 0 ∷ 0 ∷ 0 ∷ zero_tail
