@@ -1,9 +1,11 @@
 -- Where a file passes, no case holds at any of its places. Assumes nothing.
 use Rattle.std.proofs.Common.{◌≡◌, ℕ, ◌+◌, ◌<◌, true, false, List, is_ok, Ok, Err, Result, refl, arith}
 use Rattle.std.proofs.lemmas.Bool.{and_parts, not-false}
+use Rattle.refusal.specs.Carried.{in_field}
+use Rattle.refusal.specs.declared.FieldFault.{FieldFault}
 use Rattle.refusal.specs.declared.RecordFault.{RecordFault}
 use Rattle.records.specs.Records.{records}
-use Rattle.search.proofs.Places.{nowhere}
+use Rattle.search.proofs.Places.{nowhere, none_found}
 use Rattle.field.specs.SettingLimits.{settings_keep}
 use Rattle.filed.specs.Codes.{code_keeps}
 use Rattle.checking.specs.declared.cases.FieldCase.{FieldCase}
@@ -27,6 +29,10 @@ then_second (Err fault) b e = false_true e
 in_record_passes : (a : Result (Unit {0}) RecordFault) → is_ok (in_record a) ≡ true → is_ok a ≡ true
 in_record_passes (Ok t) e = e
 in_record_passes (Err fault) e = e
+
+pub in_field_passes : (a : Result (Unit {0}) FieldFault) → is_ok (in_field a) ≡ true → is_ok a ≡ true
+in_field_passes (Ok t) e = e
+in_field_passes (Err fault) e = e
 
 module _ (file : List ℕ) where
   -- a case that passes holds at none of its places
@@ -73,6 +79,20 @@ module _ (file : List ℕ) where
         rows_keep = field_nowhere Rows (then_first (field_case file Rows) _ after_count);
         linked_losses = field_nowhere Losses (then_second (field_case file Rows) _ after_count);
       }
+
+  -- and where no case holds anywhere, a file passes
+  record_passes : (case : RecordCase) → ((k : ℕ) → k < record_places file case → record_at file case k ≡ false) → record_case file case ≡ Ok tt
+  unfolding record_case
+  record_passes case = none_found (record_fault case) (record_places file case) (record_at file case)
+
+  field_passes : (case : FieldCase) → ((k : ℕ) → k < field_places file case → field_at file case k ≡ false) → field_case file case ≡ Ok tt
+  unfolding field_case
+  field_passes case = none_found (field_fault case) (field_places file case) (field_at file case)
+
+  pub passing : Passed → file_checked file ≡ Ok tt
+  passing p =
+      rw (record_passes Length (λ k h. p.length_right), record_passes Kind p.known, record_passes Zero p.zeroed)
+      (rw (field_passes Order p.ordered, field_passes Setting (λ k h. p.set), field_passes Ends p.within, field_passes Links p.links_keep, field_passes Count p.few, field_passes Rows p.rows_keep, field_passes Losses p.linked_losses) refl)
 
   -- so the settings keep their limits
   pub settings_kept : is_ok (file_checked file) ≡ true → (settings_keep (file_n file) (file_hmax file) (file_tmax file) (file_f file) ≡ true) × (code_keeps (file_code file) (file_smax file) ≡ true)

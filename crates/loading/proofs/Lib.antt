@@ -1,8 +1,13 @@
 mod Acts
 mod Chunks
 mod Cuts
+mod Decodes
+mod Joins
+mod Laid
 mod Parted
+mod Passing
 mod Returns
 mod Roomy
 mod Sections
 mod WrittenBack
+pub mod WrittenLoads

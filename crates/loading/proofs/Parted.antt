@@ -1,13 +1,13 @@
 -- Some records of a file as a file of their own, and the parts of a file that passes. Assumes nothing.
-use Rattle.std.proofs.Common.{◌≡◌, ℕ, ◌+◌, ◌-◌, ◌*◌, ◌<◌, ◌≤◌, Bool, true, false, eqb, leb, List, length, get_or, take, drop, Some, None, Option, unwrap_or, sym, refl, ap, ◌∙◌, subst, arith, length-drop, length-take, zero-add, leb-false, leb-true}
+use Rattle.std.proofs.Common.{◌≡◌, ℕ, ◌+◌, ◌-◌, ◌*◌, ◌<◌, ◌≤◌, Bool, true, false, eqb, leb, List, length, get_or, take, drop, Some, None, Option, unwrap_or, sym, refl, ap, ◌∙◌, subst, inl, inr, arith, length-drop, length-take, zero-add, leb-false, leb-true}
 use Rattle.std.proofs.lemmas.List.{get_or-drop, get_or-take, get_or_past, length-take-le}
-use Rattle.std.proofs.lemmas.Bool.{not-false, not-true}
+use Rattle.std.proofs.lemmas.Bool.{cases_eq, not-false, not-true, not_from_false, not_from_true}
 use Rattle.records.specs.declared.Kind.{Kind}
 use Rattle.records.specs.declared.Kind.TheVariants.{Link, Loss}
 use Rattle.records.specs.Kinds.{letter}
 use Rattle.records.specs.Records.{records, byte, four_bytes, is_kind}
 use Rattle.search.specs.Lowest.{lowest, IsLowest}
-use Rattle.search.proofs.Places.{is_lowest}
+use Rattle.search.proofs.Places.{is_lowest, lowest_of}
 use Rattle.sections.specs.Parts.{leading, other_kind, past_rows, past_links, row_records, link_records, loss_records, act_records}
 use Rattle.checking.specs.Cases.{file_n, not_zero}
 use Rattle.checking.proofs.Passes.{Passed}
@@ -150,3 +150,13 @@ module _ (file : List ℕ) where
 
     pub act_section : Section (act_records file) (1 + n + L + X) A
     act_section = rest after_links X losses_room
+
+-- the records at the front of a file that are of a kind, where the next one is of another
+pub leading_all : (file : List ℕ) (kind : Kind) (count : ℕ) → count ≤ records file → ((i : ℕ) → i < count → is_kind file i kind ≡ true) → is_kind file count kind ≡ false → leading file kind ≡ count
+unfolding leading
+leading_all file kind count within front next =
+    let before : (i : ℕ) → i < count → other_kind file kind i ≡ false = λ i h. not_from_true _ (front i h) in
+    elim (cases_eq count (records file)) [
+      | inl all ↦ ap (λ (o : Option ℕ). unwrap_or o (records file)) (sym (lowest_of (other_kind file kind) (records file) None (λ i h. before i (omega arith)))) ∙ sym all
+      | inr some ↦ ap (λ (o : Option ℕ). unwrap_or o (records file)) (sym (lowest_of (other_kind file kind) (records file) (Some count) (omega arith, not_from_false _ next, before)))
+    ]

@@ -1,2 +1,3 @@
 pub mod Kept
 pub mod Loads
+pub mod Same

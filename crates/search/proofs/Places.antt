@@ -1,5 +1,5 @@
 -- What the lowest place is. Assumes nothing.
-use Rattle.std.proofs.Common.{◌≡◌, ℕ, zero, suc, ◌+◌, ◌-◌, ◌<◌, Bool, true, false, Some, None, Option, is_ok, sym, refl, subst, suc-add, zero-add, add-one, arith, below_more}
+use Rattle.std.proofs.Common.{◌≡◌, ℕ, zero, suc, ◌+◌, ◌-◌, ◌<◌, Bool, true, false, is_some, Some, None, Ok, Option, is_ok, sym, refl, subst, suc-add, zero-add, add-one, arith, below_more}
 use Rattle.search.specs.Lowest.{lowest, IsLowest, looked_for}
 
 module _ (holds : ℕ → Bool) where
@@ -30,7 +30,7 @@ module _ (holds : ℕ → Bool) where
       let rest : n - suc i + suc i ≡ n = omega arith in
       subst (λ (k : ℕ). lowest holds k ≡ Some i) rest (found_stays i (n - suc i) (one_more_found i none here))
 
-  none_lowest : (n : ℕ) → ((k : ℕ) → k < n → holds k ≡ false) → lowest holds n ≡ None
+  pub none_lowest : (n : ℕ) → ((k : ℕ) → k < n → holds k ≡ false) → lowest holds n ≡ None
   none_lowest zero nowhere = lowest_zero
   none_lowest (suc n) nowhere = rw (sym (add-one n)) (lowest_more n (none_lowest n (λ k h. nowhere k (omega arith))) (nowhere n (omega arith)))
 
@@ -57,7 +57,29 @@ module _ (holds : ℕ → Bool) where
   pub is_lowest : (n : ℕ) (o : Option ℕ) → o ≡ lowest holds n → IsLowest holds n o
   is_lowest n o e = subst (IsLowest holds n) (sym e) (lowest_is n)
 
--- a case that is looked for and not found holds nowhere
+  -- it holds somewhere or nowhere
+  pub found_at : (n : ℕ) → is_some (lowest holds n) ≡ true → (k : ℕ) × (k < n) × (holds k ≡ true)
+  found_at n found = by (lowest holds n) (lowest_is n) found
+    where
+      by : (o : Option ℕ) → IsLowest holds n o → is_some o ≡ true → (k : ℕ) × (k < n) × (holds k ≡ true)
+      by None none e = absurd cc
+      by (Some place) is e = (place, is.0, is.1)
+
+  pub found_nowhere : (n : ℕ) → is_some (lowest holds n) ≡ false → (k : ℕ) → k < n → holds k ≡ false
+  found_nowhere n missing = by (lowest holds n) (lowest_is n) missing
+    where
+      by : (o : Option ℕ) → IsLowest holds n o → is_some o ≡ false → (k : ℕ) → k < n → holds k ≡ false
+      by None none e = none
+      by (Some place) is e = absurd cc
+
+  pub found : (n k : ℕ) → k < n → holds k ≡ true → is_some (lowest holds n) ≡ true
+  found n k h here = by (lowest holds n) (lowest_is n)
+    where
+      by : (o : Option ℕ) → IsLowest holds n o → is_some o ≡ true
+      by None none = let there = none k h in absurd cc
+      by (Some place) is = refl
+
+-- a case that is looked for and not found holds nowhere, and one that holds nowhere is not found
 pub nowhere : {Fault : Type 0} (fault : ℕ → Fault) (n : ℕ) (holds : ℕ → Bool) → is_ok (looked_for fault n holds) ≡ true → (k : ℕ) → k < n → holds k ≡ false
 unfolding looked_for
 nowhere fault n holds passes = by (lowest holds n) refl
@@ -65,3 +87,7 @@ nowhere fault n holds passes = by (lowest holds n) refl
     by : (o : Option ℕ) → o ≡ lowest holds n → (k : ℕ) → k < n → holds k ≡ false
     by None e = is_lowest holds n None e
     by (Some place) e = absurd cc
+
+pub none_found : {Fault : Type 0} (fault : ℕ → Fault) (n : ℕ) (holds : ℕ → Bool) → ((k : ℕ) → k < n → holds k ≡ false) → looked_for fault n holds ≡ Ok tt
+unfolding looked_for
+none_found fault n holds never = rw (none_lowest holds n never) refl

@@ -1,5 +1,6 @@
 // A field, as the bytes of a file.
-ghost use Rattle.std.specs.Prelude.{◌≡◌};
+ghost use Rattle.std.specs.Prelude.{◌≡◌, [], take, IfOk};
+ghost use Rattle.loading.specs.Same.{LoadsAs};
 ghost use Rattle.recording.specs.Bytes.{field_bytes};
 ghost use Rattle.vetting.specs.Vetted.{vetted};
 ghost use Rattle.writing.specs.Answers.{write_answer, write_page};
@@ -38,6 +39,7 @@ impl<'a, 'n, 'r, 'l, 'x, N: Filed> Text for FieldText<'a, 'n, 'r, 'l, 'x, N> {
 pub fn write_field<N: Filed>(draft: &Draft<N>, out: &mut [u8]) -> Result<usize, RunFault>
     ensures value { let d = draft.now in result ≡ write_answer (vetted (N.Numbering.meaning d.rules.numbering.now) d.rules.settings d.rows.now d.links.now d.losses.now) (field_bytes N.Number.NumberKind.worth (N.Filed.coded d.rules.numbering.now) (N.Filed.top d.rules.numbering.now) d.rules.settings d.rows.now d.links.now d.losses.now) out.old }
     ensures out { let d = draft.now in out.new ≡ write_page (vetted (N.Numbering.meaning d.rules.numbering.now) d.rules.settings d.rows.now d.links.now d.losses.now) (field_bytes N.Number.NumberKind.worth (N.Filed.coded d.rules.numbering.now) (N.Filed.top d.rules.numbering.now) d.rules.settings d.rows.now d.links.now d.losses.now) out.old }
+    ensures same { let d = draft.now in IfOk result (λ size. LoadsAs N.Number.NumberKind.of (N.Filed.coded d.rules.numbering.now) (N.Filed.top d.rules.numbering.now) d.rules.settings d.rows.now d.links.now d.losses.now [] (take size out.new)) }
 {
     draft.vet()?;
     write(&FieldText { draft }, out).ok_or(RunFault::NoRoom)
