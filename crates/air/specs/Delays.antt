@@ -1,0 +1,6 @@
+-- Delay rules. Assumes nothing.
+use Rattle.std.specs.Prelude.{ℕ, ◌≤◌}
+
+-- every period lies from 1 to tmax, for a tmax of at least 1
+abbrev pub KeepsPeriods : (ℕ → ℕ → ℕ → ℕ) → Type 0
+KeepsPeriods period = (tmax instant sensor : ℕ) → 1 ≤ tmax → (1 ≤ period tmax instant sensor) × (period tmax instant sensor ≤ tmax)

@@ -1,0 +1,24 @@
+-- Numbers that a seed draws. Assumes nothing.
+use Rattle.std.specs.Prelude.{ℕ, ◌+◌, ◌*◌, ◌/◌, ◌%◌, ◌^◌, Bool, cond, ◌==◌, nat_lt}
+use Rattle.std.specs.Int.Bits.{bit_xor}
+use Rattle.field.specs.declared.Link.{Link}
+
+-- one number mixed in: in 32 bits, the sum and the product that pass them are cut
+abbrev pub mixed : ℕ → ℕ → ℕ
+mixed x number = (bit_xor x number * 1664525 + 1013904223) % 2 ^ 32
+
+-- the number that a seed draws for three numbers
+unfoldable pub draw : ℕ → ℕ → ℕ → ℕ → ℕ
+draw seed first second third = mixed (mixed (mixed seed first) second) third / 65536
+
+-- a period from 1 to tmax; none can lie there where tmax is 0, and it is 0 then
+abbrev pub drawn_period : ℕ → ℕ → ℕ → ℕ → ℕ
+drawn_period seed tmax instant sensor = cond (tmax == 0) 0 (1 + draw seed instant sensor 0 % tmax)
+
+-- the percentage that a label stands for
+abbrev pub percent : ℕ → ℕ
+percent label = cond (label == 0) 100 label
+
+-- a copy is carried by as many of a hundred draws as the label says
+abbrev pub drawn_carries : ℕ → ℕ → Link → Bool
+drawn_carries seed instant link = nat_lt (draw seed instant link.from link.to % 100) (percent link.label)
