@@ -1,0 +1,8 @@
+// What a sensor does as an instant opens, and with a copy.
+#![tactic(auto)]
+
+mod hearing;
+mod opening;
+
+pub use hearing::{Taken, Verdict, take_copy};
+pub use opening::{open_base, open_other};
