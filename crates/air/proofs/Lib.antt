@@ -1,1 +1,1 @@
-mod Somewhere
+pub mod Somewhere

@@ -1,8 +1,9 @@
--- Whether a test holds of some element of a list. Assumes nothing.
+-- What the collision layer answers, by the links at their places. Assumes nothing.
 use Rattle.std.proofs.Common.{◌≡◌, ℕ, zero, suc, Bool, true, false, List, [], ◌∷◌, Some, refl}
 use Rattle.std.specs.List.{list_any, slice_get}
 use Rattle.field.specs.declared.Link.{Link}
-use Rattle.air.specs.Airs.{meets, drowned, Drowns}
+use Rattle.air.specs.Airs.{meets, drowned, Carrying, Comes, sends, collisions_carry}
+use Rattle.std.specs.Prelude.{not, ◌&&◌}
 
 module _ {A : Type 0} (p : A → Bool) where
   some_at : (xs : List A) → list_any p xs ≡ true → (k : ℕ) × (x : A) × (slice_get xs k ≡ Some x) × (p x ≡ true)
@@ -25,13 +26,16 @@ module _ {A : Type 0} (p : A → Bool) where
       by false here zero there later = (let f : y ≡ x = cc in rw f at here)
       by false here (suc k) there later = later (let f = rw here at e in f) k there
 
-pub drowns : (link : Link) (links : List Link) (senders : List ℕ) (r : Bool) → r ≡ drowned link links senders → Drowns link links senders r
-unfolding Drowns
-drowns link links senders true e = some_at (meets link senders) links (sym_of e)
+pub comes : (below : Carrying) (i : ℕ) (link : Link) (links : List Link) (senders : List ℕ) (r : Bool) → r ≡ collisions_carry below i link links senders → Comes below i link links senders r
+unfolding Comes
+comes below i link links senders r e = by (below i link links senders) (sends senders link.to) (drowned link links senders) r refl refl refl e
   where
-    sym_of : true ≡ drowned link links senders → drowned link links senders ≡ true
-    sym_of e = cc
-drowns link links senders false e = none_at (meets link senders) links (sym_of e)
-  where
-    sym_of : false ≡ drowned link links senders → drowned link links senders ≡ false
-    sym_of e = cc
+    by : (b s d r : Bool) → below i link links senders ≡ b → sends senders link.to ≡ s → drowned link links senders ≡ d → r ≡ (b && (not s && not d)) → Comes below i link links senders r
+    by true false false true eb es ed e = (eb, es, none_at (meets link senders) links ed)
+    by true false true false eb es ed e = λ _ _. some_at (meets link senders) links ed
+    by false s d false eb es ed e = λ yes _. absurd cc
+    by true true d false eb es ed e = λ _ no. absurd cc
+    by false s d true eb es ed e = absurd cc
+    by true true d true eb es ed e = absurd cc
+    by true false true true eb es ed e = absurd cc
+    by true false false false eb es ed e = absurd cc

@@ -28,11 +28,11 @@ meets link senders other = other.to == link.to && (not (other.from == link.from)
 abbrev pub drowned : Link → List Link → List ℕ → Bool
 drowned link links senders = list_any (meets link senders) links
 
--- the same, by the links at their places: one is such a one, or none is
-unfoldable pub Drowns : Link → List Link → List ℕ → Bool → Type 0
-Drowns link links senders true = (k : ℕ) × (other : Link) × (slice_get links k ≡ Some other) × (meets link senders other ≡ true)
-Drowns link links senders false = (k : ℕ) (other : Link) → slice_get links k ≡ Some other → meets link senders other ≡ false
-
 -- the air below says yes, the receiver does not send, and no other sensor sends over a link into it
 abbrev pub collisions_carry : Carrying → Carrying
 collisions_carry below instant link links senders = below instant link links senders && (not (sends senders link.to) && not (drowned link links senders))
+
+-- What a yes and a no say, by the links at their places: no link of the list meets the copy, or one does.
+unfoldable pub Comes : Carrying → ℕ → Link → List Link → List ℕ → Bool → Type 0
+Comes below instant link links senders true = (below instant link links senders ≡ true) × (sends senders link.to ≡ false) × ((k : ℕ) (other : Link) → slice_get links k ≡ Some other → meets link senders other ≡ false)
+Comes below instant link links senders false = below instant link links senders ≡ true → sends senders link.to ≡ false → (k : ℕ) × (other : Link) × (slice_get links k ≡ Some other) × (meets link senders other ≡ true)

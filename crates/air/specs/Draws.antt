@@ -19,6 +19,6 @@ drawn_period seed tmax instant sensor = cond (tmax == 0) 0 (1 + draw seed instan
 abbrev pub percent : ℕ → ℕ
 percent label = cond (label == 0) 100 label
 
--- a copy is carried by as many of a hundred draws as the label says
+-- yes where the draw, modulo 100, is below the percentage of the label
 abbrev pub drawn_carries : ℕ → ℕ → Link → Bool
 drawn_carries seed instant link = nat_lt (draw seed instant link.from link.to % 100) (percent link.label)

@@ -13,6 +13,15 @@ pub trait Air {
         ensures { result ≡ carries self.now instant link links.now senders.now };
 }
 
+// An air that is lent is the same air.
+impl<A: Air> Air for &A {
+    ghost carries = { λ s. A.Air.carries s.now };
+
+    fn carries(&self, instant: u32, link: Link, links: &[Link], senders: &[u8]) -> bool {
+        (**self).carries(instant, link, links, senders)
+    }
+}
+
 // Does a sensor send? Its byte is 1 then; a byte that is not there says no.
 pub fn sends(senders: &[u8], sensor: u8) -> bool
     ensures { result ≡ sends senders.now sensor }

@@ -1,11 +1,12 @@
 // Copies that other senders drown.
 ghost use Rattle.std.specs.Prelude.{◌≡◌};
-ghost use Rattle.air.specs.Airs.{drowned, Drowns, collisions_carry};
+ghost use Rattle.air.specs.Airs.{drowned, Comes, collisions_carry};
 
 use crate::air::{Air, sends};
 use field::Link;
 
-fn any_meets(link: Link, links: &[Link], senders: &[u8]) -> bool
+// Does another sensor send over a link into the same receiver?
+fn drowned(link: Link, links: &[Link], senders: &[u8]) -> bool
     ensures { result ≡ drowned link links.now senders.now }
 {
     for place in 0..links.len() {
@@ -17,17 +18,8 @@ fn any_meets(link: Link, links: &[Link], senders: &[u8]) -> bool
     false
 }
 
-// Does another sensor send over a link into the same receiver?
-#[tactic(auto, using(crate::proofs::Somewhere::drowns))]
-pub fn drowned(link: Link, links: &[Link], senders: &[u8]) -> bool
-    ensures value { result ≡ drowned link links.now senders.now }
-    ensures some { Drowns link links.now senders.now result }
-{
-    any_meets(link, links, senders)
-}
-
 // Over any air: a receiver that sends hears nothing, and nor does one at which two senders meet.
-#[derive(Drop)]
+#[derive(Clone, Copy, PartialEq, Eq, Debug)]
 pub struct Collisions<A> {
     pub below: A,
 }
@@ -35,8 +27,12 @@ pub struct Collisions<A> {
 impl<A: Air> Air for Collisions<A> {
     ghost carries = { λ s. collisions_carry (A.Air.carries s.below) };
 
-    fn carries(&self, instant: u32, link: Link, links: &[Link], senders: &[u8]) -> bool {
-        // what costs least first: only `drowned` looks at every link
+    #[tactic(auto, using(crate::proofs::Somewhere::comes))]
+    fn carries(&self, instant: u32, link: Link, links: &[Link], senders: &[u8]) -> bool
+        ensures value { result ≡ collisions_carry (A.Air.carries self.now.below) instant link links.now senders.now }
+        ensures places { Comes (A.Air.carries self.now.below) instant link links.now senders.now result }
+    {
+        // the links last, since they are many
         !sends(senders, link.to)
             && self.below.carries(instant, link, links, senders)
             && !drowned(link, links, senders)

@@ -45,7 +45,7 @@ impl DelayRule for Drawn {
     }
 }
 
-// How many draws of a hundred a label carries.
+// The percentage that a label stands for.
 fn percent(label: u8) -> u32
     ensures { result ≡ percent label }
 {

@@ -10,7 +10,7 @@ mod losses;
 mod tests;
 
 pub use air::{Air, sends};
-pub use collisions::{Collisions, drowned};
+pub use collisions::Collisions;
 pub use delay::{DelayRule, Slowest};
 pub use draws::{Drawn, draw};
 pub use losses::Losses;

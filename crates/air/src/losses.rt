@@ -5,7 +5,7 @@ use crate::air::Air;
 use field::{Link, Loss};
 
 // Over any air: a copy that is listed is lost.
-#[derive(Drop)]
+#[derive(Clone, Copy, PartialEq, Eq, Debug)]
 pub struct Losses<'x, A> {
     pub listed: &'x [Loss],
     pub below: A,

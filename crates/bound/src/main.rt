@@ -1,7 +1,7 @@
 // The program `bound`: a numbering's patience and catch-up count for a sensor, flood by flood.
 #![tactic(auto)]
 
-use inquiry::{Reply, reply};
+use inquiry::Reply;
 use page::{size, write};
 use std::process::ExitCode;
 use std::{env, io};
@@ -48,7 +48,7 @@ fn print(rt: &HostRuntime, reply: &Reply) -> io::Result<()> {
 }
 
 fn answer(rt: &HostRuntime, words: &[String]) -> Result<(), Failure> {
-    match reply(words) {
+    match Reply::new(words) {
         Ok(reply) => Ok(print(rt, &reply)?),
         Err(complaint) => {
             eprintln!(rt; "bound: {complaint} (bound --help says how to call it)")?;

@@ -2,7 +2,7 @@
 // A line `windowed WINDOW HELD BASE` asks the same of a numbering made outside the crate of the four.
 #![tactic(auto)]
 
-use inquiry::{Complaint, Report, reply, report};
+use inquiry::{Complaint, Reply, Report};
 use page::{Text, size, write};
 use std::alloc::{AllocError, Global};
 use std::io;
@@ -24,7 +24,7 @@ fn report_windowed(
     base: &str,
 ) -> Result<Report<Windowed, Serial>, Complaint> {
     let numbering = windowed_in(window).ok_or(Complaint::Words)?;
-    report(numbering, held, base)
+    Report::new(numbering, held, base)
 }
 
 fn print<T: Text + Drop>(rt: &HostRuntime, answer: Result<T, Complaint>) -> io::Result<()> {
@@ -46,7 +46,7 @@ fn run(rt: &HostRuntime, line: &str) -> io::Result<()> {
             let answer = report_windowed(window.as_str(), held.as_str(), base.as_str());
             print(rt, answer)
         }
-        words => print(rt, reply(words)),
+        words => print(rt, Reply::new(words)),
     }
 }
 

@@ -3,6 +3,8 @@
 
 mod entry;
 mod lines;
+mod misnamed;
 
 pub use entry::Entry;
 pub use lines::entry_in;
+pub use misnamed::first_misnamed;

@@ -1,13 +1,13 @@
 // A listing, read and written as a field file.
 use crate::contents;
-use entries::{Entry, entry_in};
+use entries::{Entry, entry_in, first_misnamed};
 use field::{Act, Link, Loss, Row};
 use filed::Filed;
 use loading::{FieldFile, FileUnder};
 use numbering::NumberKind;
 use page::{size, write};
 use recording::Records;
-use refusal::{FieldFault, RunFault, Told};
+use refusal::{FieldFault, RecordFault, RunFault, Told};
 use std::alloc::{AllocError, Global};
 use std::process::ExitCode;
 use std::{io, str};
@@ -87,6 +87,7 @@ fn tell(rt: &HostRuntime, fault: RunFault) -> io::Result<ExitCode> {
 fn copy<N: Filed>(rt: &HostRuntime, field: &FileUnder<N>, size: usize) -> io::Result<ExitCode> {
     let alloc = rt.alloc();
     let Some(row) = blank() else {
+        eprintln!(rt; "field_tool: no number has the value 0")?;
         return Ok(ExitCode::FAILURE);
     };
     let counts = field.counts();
@@ -112,6 +113,10 @@ fn copy<N: Filed>(rt: &HostRuntime, field: &FileUnder<N>, size: usize) -> io::Re
 }
 
 fn refuse(rt: &HostRuntime, fault: FieldFault) -> io::Result<ExitCode> {
+    if let FieldFault::Record(RecordFault::BadLength) = fault {
+        eprintln!(rt; "field_tool: there are more than 4,000 lines")?;
+        return Ok(ExitCode::FAILURE);
+    }
     let line = fault.told().place.saturating_add(1);
     eprintln!(rt; "field_tool: line {line}: {fault}")?;
     Ok(ExitCode::FAILURE)
@@ -122,6 +127,9 @@ fn make_file(rt: &HostRuntime, entries: &[Entry]) -> io::Result<ExitCode> {
     let records = Records(entries);
     let mut file = vec![in rt.alloc(); 0u8; size(&records)]?;
     write(&records, &mut file);
+    if let Some(place) = first_misnamed(entries) {
+        return refuse(rt, FieldFault::OutOfOrder(place));
+    }
     match FieldFile::new(&file) {
         Ok(FieldFile::Free(field)) => copy(rt, &field, file.len()),
         Ok(FieldFile::Linear(field)) => copy(rt, &field, file.len()),
@@ -140,7 +148,7 @@ pub fn make(rt: &HostRuntime, name: &str) -> io::Result<ExitCode> {
         eprintln!(rt; "field_tool: {name} is no text")?;
         return Ok(ExitCode::FAILURE);
     };
-    match entries_in(rt.alloc(), text) {
+    match entries_in(rt.alloc(), text.trim_end()) {
         Ok(entries) => make_file(rt, &entries),
         Err(Failure::Line(line)) => {
             eprintln!(rt; "field_tool: line {line} is not understood")?;

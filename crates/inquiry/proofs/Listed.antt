@@ -3,7 +3,7 @@ use Rattle.std.proofs.Common.{◌≡◌, suc, ◌+◌, ◌<◌, min, List, ◌�
 use Rattle.numbering.specs.Meaning.{Meaning}
 use Rattle.hearing.specs.declared.Heard.{Heard}
 use Rattle.hearing.proofs.Hears.{hearing_most}
-use Rattle.inquiry.specs.declared.writing.Report.{Report}
+use Rattle.inquiry.specs.declared.reports.Report.{Report}
 use Rattle.inquiry.specs.Written.{listed, listed_floods}
 
 -- fewer are told than are listed while one is left

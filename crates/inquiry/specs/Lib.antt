@@ -1,4 +1,5 @@
 pub mod Answers
 pub mod Complaints
 pub mod Reading
+pub mod Replies
 pub mod Written

@@ -1,14 +1,11 @@
 -- The text of an answer. Assumes nothing.
 use Rattle.std.specs.Prelude.{ℕ, min, cond, List, [], ◌++◌, length, codes, decimal, ◌==◌, nat_lt}
-use Rattle.numbering.specs.Four.{linear, ring, circular_fresh, differs}
 use Rattle.numbering.specs.Meaning.{Meaning}
 use Rattle.hearing.specs.declared.Heard.{Heard}
 use Rattle.hearing.specs.Hearing.{hearing}
 use Rattle.hearing.specs.Written.{verdict_word}
 use Rattle.page.specs.Pages.{joined}
-use Rattle.inquiry.specs.declared.writing.Report.{Report}
-use Rattle.inquiry.specs.declared.writing.Reply.{Reply}
-use Rattle.inquiry.specs.declared.writing.Reply.TheVariants.{Free, Linear, Circular, Differentiated}
+use Rattle.inquiry.specs.declared.reports.Report.{Report}
 
 -- at most so many floods are listed
 abbrev pub listed : ℕ
@@ -40,12 +37,6 @@ free_text = codes "free does not settle: it has no patience and no catch-up coun
 abbrev pub listed_floods : {N Num : Type 0} → (N → Meaning Num) → Report N Num → List (Heard Num)
 listed_floods meaning r = hearing (meaning r.numbering) (min r.forecast.catch_up listed) r.held r.base
 
--- the text of a report, and of a reply in each of the four numberings
+-- the text of a report
 abbrev pub report_text : {N Num : Type 0} → (N → Meaning Num) → (Num → ℕ) → Report N Num → List ℕ
 report_text meaning worth r = forecast_text worth r.forecast.patience r.forecast.catch_up (listed_floods meaning r)
-
-abbrev pub reply_text : Reply → List ℕ
-reply_text Free = free_text
-reply_text (Linear report) = report_text (λ m. linear) (λ x. x) report
-reply_text (Circular report) = report_text (λ m. ring m.ring.smax (circular_fresh m.ring.smax)) (λ x. x) report
-reply_text (Differentiated report) = report_text (λ m. ring m.ring.smax differs) (λ x. x) report

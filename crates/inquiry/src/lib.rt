@@ -4,8 +4,8 @@
 mod complaint;
 mod reading;
 mod replies;
-mod writing;
+mod reports;
 
 pub use complaint::Complaint;
-pub use replies::{reply, report};
-pub use writing::{Reply, Report};
+pub use replies::Reply;
+pub use reports::Report;

@@ -2,6 +2,7 @@
 ghost use Rattle.std.specs.Prelude.{◌≡◌, map, None, string_bytes, MatchOption, MatchResult};
 ghost use Rattle.std.specs.Option.{ok_or};
 ghost use Rattle.inquiry.specs.declared.complaint.Complaint.TheVariants.{Words, Numbering as NoNumbering};
+ghost use Rattle.inquiry.specs.Answers.{both_in};
 ghost use Rattle.inquiry.specs.Reading.{first_of, pair_of, named, lawful_in, smax_in};
 
 use crate::complaint::Complaint;
@@ -65,4 +66,17 @@ pub fn ringed_in<R: Rule>(word: &str) -> Option<Ringed<R>>
     ensures { MatchOption result (smax_in word.now ≡ None) (λ m. smax_in word.now ≡ Some m.ring.smax) }
 {
     Ringed::new(u8::of_value(number_in(word)?)?)
+}
+
+// The lawful numbers of the sensor and of the base, from two words.
+pub fn both_in<N: Numbering>(
+    numbering: &N,
+    held: &str,
+    base: &str,
+) -> Result<(N::Number, N::Number), Complaint>
+    ensures { result ≡ both_in (N.Numbering.meaning numbering.now) N.Number.NumberKind.of held.now base.now }
+{
+    let held = lawful_in(numbering, held).ok_or(Complaint::Held)?;
+    let base = lawful_in(numbering, base).ok_or(Complaint::Base)?;
+    Ok((held, base))
 }

@@ -1,44 +1,44 @@
 // What `bound` answers to its words.
 ghost use Rattle.std.specs.Prelude.{◌≡◌, map, string_bytes};
 ghost use Rattle.numbering.specs.Four.{ring};
-ghost use Rattle.inquiry.specs.Written.{report_text, reply_text};
-ghost use Rattle.inquiry.specs.Answers.{texts, both_in, forecast_of, two, after_smax, ringed_answer, free_answer, answer};
+ghost use Rattle.inquiry.specs.Written.{report_text};
+ghost use Rattle.inquiry.specs.Replies.{answer_text, reply_text};
+ghost use Rattle.inquiry.specs.Answers.{texts, forecast_of, two, after_smax, ringed_answer, free_answer, answer_named, answer};
 
 use crate::complaint::Complaint;
-use crate::reading::{Name, first_of, lawful_in, pair_of, ringed_in};
-use crate::writing::{Reply, Report};
-use hearing::foretell;
-use numbering::{Free, Linear, Numbering, Ringed, Rule, Settling};
+use crate::reading::{Name, both_in, first_of, pair_of, ringed_in};
+use crate::reports::Report;
+use numbering::{Circular, Differentiated, Free, Linear, Ringed, Rule, Settling};
+use page::{Pen, Text};
 
-// The lawful numbers of the sensor and of the base, from two words.
-fn both_in<N: Numbering>(
-    numbering: &N,
-    held: &str,
-    base: &str,
-) -> Result<(N::Number, N::Number), Complaint>
-    ensures { result ≡ both_in (N.Numbering.meaning numbering.now) N.Number.NumberKind.of held.now base.now }
-{
-    let held = lawful_in(numbering, held).ok_or(Complaint::Held)?;
-    let base = lawful_in(numbering, base).ok_or(Complaint::Base)?;
-    Ok((held, base))
+// What is answered in each of the four numberings; of free there is nothing to report.
+#[derive(Clone, Copy)]
+enum Answer {
+    Free,
+    Linear(Report<Linear, u32>),
+    Circular(Report<Circular, u8>),
+    Differentiated(Report<Differentiated, u8>),
 }
 
-// The forecast for a sensor and a base that hold the numbers in two words.
-pub fn report<N: Settling + Copy>(
-    numbering: N,
-    held: &str,
-    base: &str,
-) -> Result<Report<N, N::Number>, Complaint>
-    ensures { texts (report_text N.Numbering.meaning N.Number.NumberKind.worth) result ≡ forecast_of N.Settling N.Number.NumberKind numbering held.now base.now }
-{
-    let (held, base) = both_in(&numbering, held, base)?;
-    let forecast = foretell(&numbering, held, base)?;
-    Ok(Report {
-        numbering,
-        held,
-        base,
-        forecast,
-    })
+// An answer, of which the text is all that can be seen.
+#[derive(Clone, Copy)]
+pub struct Reply {
+    answer: Answer,
+}
+
+impl Text for Reply {
+    ghost text = { reply_text };
+
+    fn put(&self, pen: &mut Pen) {
+        match &self.answer {
+            Answer::Free => pen.bytes(
+                "free does not settle: it has no patience and no catch-up count\n".as_bytes(),
+            ),
+            Answer::Linear(report) => report.put(pen),
+            Answer::Circular(report) => report.put(pen),
+            Answer::Differentiated(report) => report.put(pen),
+        }
+    }
 }
 
 // The same, where the two words are all that is left.
@@ -49,7 +49,7 @@ fn report_words<N: Settling + Copy>(
     ensures { texts (report_text N.Numbering.meaning N.Number.NumberKind.worth) result ≡ two (forecast_of N.Settling N.Number.NumberKind numbering) (map string_bytes words.now) }
 {
     let (held, base) = pair_of(words)?;
-    report(numbering, held, base)
+    Report::new(numbering, held, base)
 }
 
 // An smax comes before the two words.
@@ -62,23 +62,33 @@ fn report_ringed<R: Rule>(words: &[String]) -> Result<Report<Ringed<R>, u8>, Com
 }
 
 // Free has lawful numbers, but no patience and no catch-up count.
-fn reply_free(words: &[String]) -> Result<Reply, Complaint>
-    ensures { texts reply_text result ≡ two free_answer (map string_bytes words.now) }
+fn reply_free(words: &[String]) -> Result<Answer, Complaint>
+    ensures { texts answer_text result ≡ two free_answer (map string_bytes words.now) }
 {
     let (held, base) = pair_of(words)?;
     both_in(&Free, held, base)?;
-    Ok(Reply::Free)
+    Ok(Answer::Free)
 }
 
-// The answer to the words that stand after the program's name.
-pub fn reply(words: &[String]) -> Result<Reply, Complaint>
-    ensures { texts reply_text result ≡ answer (map string_bytes words.now) }
+// The answer of the numbering that a name says, to the words after it.
+fn answer_named(name: Name, words: &[String]) -> Result<Answer, Complaint>
+    ensures { texts answer_text result ≡ answer_named name (map string_bytes words.now) }
 {
-    let (name, rest) = first_of(words)?;
-    match name.parse::<Name>()? {
-        Name::Free => reply_free(rest),
-        Name::Linear => Ok(Reply::Linear(report_words(Linear, rest)?)),
-        Name::Circular => Ok(Reply::Circular(report_ringed(rest)?)),
-        Name::Differentiated => Ok(Reply::Differentiated(report_ringed(rest)?)),
+    match name {
+        Name::Free => reply_free(words),
+        Name::Linear => Ok(Answer::Linear(report_words(Linear, words)?)),
+        Name::Circular => Ok(Answer::Circular(report_ringed(words)?)),
+        Name::Differentiated => Ok(Answer::Differentiated(report_ringed(words)?)),
+    }
+}
+
+impl Reply {
+    // The answer to the words that stand after the program's name.
+    pub fn new(words: &[String]) -> Result<Reply, Complaint>
+        ensures { texts reply_text result ≡ answer (map string_bytes words.now) }
+    {
+        let (name, rest) = first_of(words)?;
+        let answer = answer_named(name.parse::<Name>()?, rest)?;
+        Ok(Reply { answer })
     }
 }

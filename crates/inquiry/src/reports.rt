@@ -1,10 +1,13 @@
-// Answers as text.
+// A forecast, as text.
 ghost use Rattle.std.specs.Prelude.{◌≡◌, length};
 ghost use Rattle.page.specs.Pens.{Wrote};
-ghost use Rattle.inquiry.specs.Written.{bound_line, stop_line, flood_line, flood_lines, listed_floods, report_text, reply_text};
+ghost use Rattle.inquiry.specs.Answers.{texts, forecast_of};
+ghost use Rattle.inquiry.specs.Written.{bound_line, stop_line, flood_line, flood_lines, listed_floods, report_text};
 
-use hearing::{Forecast, Heard, hear_floods};
-use numbering::{Circular, Differentiated, Linear, NumberKind, Settling};
+use crate::complaint::Complaint;
+use crate::reading::both_in;
+use hearing::{Forecast, Heard, foretell, hear_floods};
+use numbering::{NumberKind, Settling};
 use page::{Pen, Text};
 
 // At most so many floods are listed.
@@ -13,10 +16,26 @@ const LISTED: u64 = 512;
 // What is told of a sensor that holds one number under a base that holds another.
 #[derive(Clone, Copy)]
 pub struct Report<N, Number> {
-    pub numbering: N,
-    pub held: Number,
-    pub base: Number,
-    pub forecast: Forecast,
+    numbering: N,
+    held: Number,
+    base: Number,
+    forecast: Forecast,
+}
+
+impl<N: Settling + Copy> Report<N, N::Number> {
+    // Of a sensor and a base that hold the numbers in two words.
+    pub fn new(numbering: N, held: &str, base: &str) -> Result<Report<N, N::Number>, Complaint>
+        ensures { texts (report_text N.Numbering.meaning N.Number.NumberKind.worth) result ≡ forecast_of N.Settling N.Number.NumberKind numbering held.now base.now }
+    {
+        let (held, base) = both_in(&numbering, held, base)?;
+        let forecast = foretell(&numbering, held, base)?;
+        Ok(Report {
+            numbering,
+            held,
+            base,
+            forecast,
+        })
+    }
 }
 
 #[tactic(auto, unfolding(crate::specs::Written::bound_line))]
@@ -91,29 +110,5 @@ impl<N: Settling> Text for Report<N, N::Number> {
         put_bound(pen, self.forecast);
         let count = put_floods(pen, self);
         put_stop(pen, self.forecast, count)
-    }
-}
-
-// What is answered in each of the four numberings; of free there is nothing to report.
-#[derive(Clone, Copy)]
-pub enum Reply {
-    Free,
-    Linear(Report<Linear, u32>),
-    Circular(Report<Circular, u8>),
-    Differentiated(Report<Differentiated, u8>),
-}
-
-impl Text for Reply {
-    ghost text = { reply_text };
-
-    fn put(&self, pen: &mut Pen) {
-        match self {
-            Reply::Free => pen.bytes(
-                "free does not settle: it has no patience and no catch-up count\n".as_bytes(),
-            ),
-            Reply::Linear(report) => report.put(pen),
-            Reply::Circular(report) => report.put(pen),
-            Reply::Differentiated(report) => report.put(pen),
-        }
     }
 }

@@ -2,7 +2,7 @@ use Rattle.std.proofs.Common.{◌≡◌, ◌+◌, [], ◌∷◌, ◌++◌, List,
 use Rattle.page.proofs.Wrotes.{wrote_last}
 use Rattle.hearing.specs.Hearing.{hearing}
 use Rattle.inquiry.specs.Written.{flood_line}
-use Rattle.inquiry.proofs.writing.put_floods.Goals as goal
+use Rattle.inquiry.proofs.reports.put_floods.Goals as goal
 
 pub loop-flood-preserved : goal.loop-flood-preserved
 loop-flood-preserved g c =

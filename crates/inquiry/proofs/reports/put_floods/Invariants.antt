@@ -2,7 +2,7 @@ use Rattle.std.proofs.Common.{◌≡◌, ◌++◌, length}
 use Rattle.page.specs.Pens.{Wrote}
 use Rattle.hearing.specs.Hearing.{hearing}
 use Rattle.inquiry.specs.Written.{flood_lines, listed_floods}
-use Rattle.inquiry.proofs.writing.put_floods.Given as goal
+use Rattle.inquiry.proofs.reports.put_floods.Given as goal
 
 -- the lines of the floods so far are on the page, and with those to come they are all that are listed
 abbrev pub invariant-loop-flood : goal.invariant-loop-flood
