@@ -2,7 +2,9 @@
 #![tactic(auto)]
 
 mod hearing;
+mod instants;
 mod opening;
 
 pub use hearing::{Taken, Verdict, take_copy};
+pub use instants::{close_rows, open_rows, send_bytes, silence};
 pub use opening::{open_base, open_other};

@@ -1,0 +1,92 @@
+// Rows and sender bytes, as an instant opens and as it ends.
+ghost use Rattle.std.specs.Prelude.{◌≡◌, ℕ};
+ghost use Rattle.std.specs.List.{slice_get};
+ghost use Rattle.flood.specs.Instants.{changed, row_opened, opened, byte_of, sending, row_closed, closed, silent};
+
+use crate::opening::{open_base, open_other};
+use air::DelayRule;
+use field::{Row, Rules};
+use numbering::Numbering;
+
+// Changes each of the first n items, with its place, in ascending order; the others stay.
+#[tactic(auto, using(crate::proofs::Changes::changed_none, crate::proofs::Changes::one_changed, crate::proofs::Changes::none_changed))]
+fn change_each<T: Copy, F: Fn(u8, T) -> T>(items: &mut [T], n: u8, change: F)
+    requires { F.IsAlwaysCallable change }
+    ensures { (by : ℕ → T → T) → ((k : ℕ) (x y : T) → F.post change k x y → y ≡ by k x) → items.new ≡ changed by 0 n items.old }
+{
+    for place in 0..n {
+        let at = usize::from(place);
+        if at < items.len() {
+            items[at] = change(place, items[at]);
+        }
+    }
+}
+
+// A sensor as an instant opens; the base stays as it is where it must send and no number follows.
+fn open_row<N: Numbering, D: DelayRule>(
+    rules: &Rules<N>,
+    delay: &D,
+    instant: u32,
+    sensor: u8,
+    row: Row<N::Number>,
+) -> Row<N::Number>
+    ensures { result ≡ row_opened (N.Numbering.meaning rules.now.numbering.now) rules.now.settings (D.DelayRule.period delay.now) instant sensor row }
+{
+    if sensor == 0 {
+        open_base(rules, row).unwrap_or(row)
+    } else {
+        open_other(delay, rules.settings.tmax, instant, sensor, row)
+    }
+}
+
+// Opens the first n rows.
+pub fn open_rows<N: Numbering, D: DelayRule>(
+    rules: &Rules<N>,
+    delay: &D,
+    instant: u32,
+    rows: &mut [Row<N::Number>],
+)
+    ensures { rows.new ≡ opened (N.Numbering.meaning rules.now.numbering.now) rules.now.settings (D.DelayRule.period delay.now) instant rows.old }
+{
+    change_each(rows, rules.settings.n, |sensor, row| {
+        open_row(rules, delay, instant, sensor, row)
+    })
+}
+
+// A sensor with something to send has the byte 1.
+fn byte_of<Number: Copy>(rows: &[Row<Number>], sensor: u8) -> u8
+    ensures { result ≡ byte_of (slice_get rows.now sensor) }
+{
+    match rows.get(usize::from(sensor)) {
+        Some(row) if row.outgoing.is_some() => 1,
+        _ => 0,
+    }
+}
+
+// Writes the first n sender bytes, by the rows.
+pub fn send_bytes<Number: Copy>(n: u8, rows: &[Row<Number>], senders: &mut [u8])
+    ensures { senders.new ≡ sending rows.now n senders.old }
+{
+    change_each(senders, n, |sensor, _| byte_of(rows, sensor))
+}
+
+// Ends an instant: the first n rows have nothing to send.
+pub fn close_rows<Number: Copy>(n: u8, rows: &mut [Row<Number>])
+    ensures { rows.new ≡ closed n rows.old }
+{
+    change_each(
+        rows,
+        n,
+        |_, row| Row {
+            outgoing: None,
+            ..row
+        },
+    )
+}
+
+// Ends an instant: no sensor sends.
+pub fn silence(n: u8, senders: &mut [u8])
+    ensures { senders.new ≡ silent n senders.old }
+{
+    change_each(senders, n, |_, _| 0)
+}
