@@ -36,3 +36,38 @@ impl DelayRule for Staggered {
         sensor.checked_rem(tmax).map_or(0, |turn| 1 + turn)
     }
 }
+
+#[cfg(test)]
+mod tests {
+    use super::*;
+    use air::{Collisions, Drawn};
+    use std::test::Fail;
+
+    // Under collisions, a storm in instants 3 and 4: a link of label 100 carries before and after.
+    #[test]
+    fn a_storm_passes(rt: HostRuntime) -> Result<(), Fail> {
+        let link = Link {
+            from: 0,
+            to: 1,
+            label: 100,
+        };
+        let air = Collisions {
+            below: Storm {
+                first: 3,
+                last: 4,
+                below: Drawn { seed: 1 },
+            },
+        };
+        let carried = [2, 3, 4, 5].map(|instant: u32| air.carries(instant, link, &[link], &[1]));
+        assert_eq!(rt; carried, [true, false, false, true]);
+        Ok(())
+    }
+
+    #[test]
+    fn sensors_take_turns(rt: HostRuntime) -> Result<(), Fail> {
+        let periods = [0, 1, 2, 3].map(|sensor: u8| Staggered.period(3, 1, sensor));
+        assert_eq!(rt; periods, [1, 2, 3, 1]);
+        assert_eq!(rt; Staggered.period(0, 1, 5), 0);
+        Ok(())
+    }
+}
