@@ -139,7 +139,7 @@ fn make_file(rt: &HostRuntime, entries: &[Entry]) -> io::Result<ExitCode> {
     }
 }
 
-pub fn make(rt: &HostRuntime, name: &str) -> io::Result<ExitCode> {
+pub(crate) fn make(rt: &HostRuntime, name: &str) -> io::Result<ExitCode> {
     let Ok(file) = contents(rt, name) else {
         eprintln!(rt; "field_tool: {name} cannot be read")?;
         return Ok(ExitCode::FAILURE);
