@@ -127,15 +127,18 @@ fn make_file(rt: &HostRuntime, entries: &[Entry]) -> io::Result<ExitCode> {
     let records = Records(entries);
     let mut file = vec![in rt.alloc(); 0u8; size(&records)]?;
     write(&records, &mut file);
+    let field = match FieldFile::new(&file) {
+        Ok(field) => field,
+        Err(fault) => return refuse(rt, fault),
+    };
     if let Some(place) = first_misnamed(entries) {
         return refuse(rt, FieldFault::OutOfOrder(place));
     }
-    match FieldFile::new(&file) {
-        Ok(FieldFile::Free(field)) => copy(rt, &field, file.len()),
-        Ok(FieldFile::Linear(field)) => copy(rt, &field, file.len()),
-        Ok(FieldFile::Circular(field)) => copy(rt, &field, file.len()),
-        Ok(FieldFile::Differentiated(field)) => copy(rt, &field, file.len()),
-        Err(fault) => refuse(rt, fault),
+    match field {
+        FieldFile::Free(field) => copy(rt, &field, file.len()),
+        FieldFile::Linear(field) => copy(rt, &field, file.len()),
+        FieldFile::Circular(field) => copy(rt, &field, file.len()),
+        FieldFile::Differentiated(field) => copy(rt, &field, file.len()),
     }
 }
 
