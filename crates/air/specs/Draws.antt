@@ -2,6 +2,7 @@
 use Rattle.std.specs.Prelude.{ℕ, ◌+◌, ◌*◌, ◌/◌, ◌%◌, ◌^◌, Bool, cond, ◌==◌, nat_lt}
 use Rattle.std.specs.Int.Bits.{bit_xor}
 use Rattle.field.specs.declared.Link.{Link}
+use Rattle.air.specs.Delays.{falls_on}
 
 -- one number mixed in: in 32 bits, the sum and the product that pass them are cut
 abbrev pub mixed : ℕ → ℕ → ℕ
@@ -11,9 +12,9 @@ mixed x number = (bit_xor x number * 1664525 + 1013904223) % 2 ^ 32
 unfoldable pub draw : ℕ → ℕ → ℕ → ℕ → ℕ
 draw seed first second third = mixed (mixed (mixed seed first) second) third / 65536
 
--- a period from 1 to tmax; none can lie there where tmax is 0, and it is 0 then
+-- the period that the draw falls on
 abbrev pub drawn_period : ℕ → ℕ → ℕ → ℕ → ℕ
-drawn_period seed tmax instant sensor = cond (tmax == 0) 0 (1 + draw seed instant sensor 0 % tmax)
+drawn_period seed tmax instant sensor = falls_on tmax (draw seed instant sensor 0)
 
 -- the percentage that a label stands for
 abbrev pub percent : ℕ → ℕ

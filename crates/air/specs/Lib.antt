@@ -1,4 +1,4 @@
 pub mod Airs
 pub mod Delays
 pub mod Draws
-pub mod DrawnKeeps
+pub mod Falls

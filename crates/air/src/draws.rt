@@ -1,7 +1,7 @@
 // Numbers that a seed draws.
 ghost use Rattle.std.specs.Prelude.{◌≡◌};
 ghost use Rattle.air.specs.Draws.{mixed, draw, drawn_period, percent, drawn_carries};
-ghost use Rattle.air.specs.DrawnKeeps.{drawn_keeps};
+ghost use Rattle.air.specs.Falls.{falls_within};
 
 use crate::air::Air;
 use crate::delay::DelayRule;
@@ -34,7 +34,7 @@ pub struct Drawn {
 impl DelayRule for Drawn {
     ghost period = { λ d. drawn_period d.seed };
 
-    ghost keeps = { λ d. drawn_keeps d.seed };
+    ghost keeps = { λ d. falls_within (λ instant sensor. draw d.seed instant sensor 0) };
 
     fn period(&self, tmax: u8, instant: u32, sensor: u8) -> u8 {
         if tmax == 0 {

@@ -4,9 +4,6 @@ use Rattle.std.specs.Option.{MatchOption}
 use Rattle.search.specs.Lowest.{IsLowest}
 
 module _ (test : ℕ → Bool) (first : ℕ) where
-  onward : ℕ → Bool
-  onward k = leb first k && test k
-
   passed : (k : ℕ) → (first ≤ k → test k ≡ false) → leb first k && test k ≡ false
   passed k none = by (leb first k) refl
     where

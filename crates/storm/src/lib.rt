@@ -1,7 +1,8 @@
 // An air and a delay rule made outside the crate of the published ones.
 #![tactic(auto)]
 
-ghost use Rattle.storm.specs.Storms.{storm_carries, staggered, staggered_keeps};
+ghost use Rattle.air.specs.Falls.{falls_within};
+ghost use Rattle.storm.specs.Storms.{storm_carries, staggered};
 
 use air::{Air, DelayRule};
 use field::Link;
@@ -30,7 +31,7 @@ pub struct Staggered;
 impl DelayRule for Staggered {
     ghost period = { λ _. staggered };
 
-    ghost keeps = { λ _. staggered_keeps };
+    ghost keeps = { λ _. falls_within (λ instant sensor. sensor) };
 
     fn period(&self, tmax: u8, _instant: u32, sensor: u8) -> u8 {
         sensor.checked_rem(tmax).map_or(0, |turn| 1 + turn)
