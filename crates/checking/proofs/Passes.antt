@@ -18,11 +18,11 @@ pub false_true : {P : Type 0} → false ≡ true → P
 false_true e = absurd cc
 
 -- of two checks that pass one after the other, each passes
-pub then_first : {F : Type 0} (a b : Result (Unit {0}) F) → is_ok (then a b) ≡ true → is_ok a ≡ true
+pub then_first : {A F : Type 0} (a : Result (Unit {0}) F) (b : Result A F) → is_ok (then a b) ≡ true → is_ok a ≡ true
 then_first (Ok t) b e = refl
 then_first (Err fault) b e = e
 
-pub then_second : {F : Type 0} (a b : Result (Unit {0}) F) → is_ok (then a b) ≡ true → is_ok b ≡ true
+pub then_second : {A F : Type 0} (a : Result (Unit {0}) F) (b : Result A F) → is_ok (then a b) ≡ true → is_ok b ≡ true
 then_second (Ok t) b e = e
 then_second (Err fault) b e = false_true e
 

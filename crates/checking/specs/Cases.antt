@@ -193,8 +193,8 @@ record_case file case = looked_for (record_fault case) (record_places file case)
 unfoldable pub field_case : List ℕ → FieldCase → Result (Unit {0}) FieldFault
 field_case file case = looked_for (field_fault case) (field_places file case) (field_at file case)
 
--- the first that is wrong, of two
-abbrev pub then : {F : Type 0} → Result (Unit {0}) F → Result (Unit {0}) F → Result (Unit {0}) F
+-- what is wrong first, or else what comes next
+abbrev pub then : {A F : Type 0} → Result (Unit {0}) F → Result A F → Result A F
 then (Ok t) next = next
 then (Err fault) next = Err fault
 

@@ -7,9 +7,13 @@ use Rattle.field.specs.declared.Message.{Message}
 use Rattle.field.specs.declared.Row.{Row}
 
 module _ {Num : Type 0} (rows : List (Row Num)) where
-  -- what goes over a link: its sender's outgoing message, if there is one
+  -- the message that a sensor sends, if there is one
+  abbrev pub outgoing_of : ℕ → Option (Message Num)
+  outgoing_of sensor = elim (slice_get rows sensor) [ None ↦ None | Some row ↦ row.outgoing ]
+
+  -- what goes over a link: its sender's message
   abbrev pub message_on : Link → Option (Message Num)
-  message_on link = elim (slice_get rows link.from) [ None ↦ None | Some row ↦ row.outgoing ]
+  message_on link = outgoing_of link.from
 
   -- a copy goes over the link at a place
   abbrev pub copy_here : List Link → ℕ → Bool

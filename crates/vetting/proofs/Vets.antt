@@ -4,7 +4,6 @@ use Rattle.std.specs.List.{slice_get}
 use Rattle.std.proofs.lemmas.Bool.{not-false, or_parts, ltb-false}
 use Rattle.std.proofs.lemmas.Option.{slice_get_within}
 use Rattle.refusal.specs.Carried.{in_field}
-use Rattle.refusal.specs.declared.RunFault.{RunFault}
 use Rattle.search.proofs.Places.{nowhere, found_at, found_nowhere}
 use Rattle.numbering.specs.Meaning.{Meaning}
 use Rattle.field.specs.declared.Act.{Act}
@@ -24,7 +23,7 @@ use Rattle.vetting.specs.Acts.{damages_none, breaks_limits, act_test, act_fault,
 use Rattle.vetting.specs.Vetted.{holds_at, linked, draft_places, draft_at, draft_fault, draft_case, drafts_vetted, vetted}
 
 -- a test that does not hold at a place does not hold of the item there
-not_of : {A : Type 0} (test : A → Bool) (items : List A) (k : ℕ) (x : A) → slice_get items k ≡ Some x → holds_at test items k ≡ false → test x ≡ false
+pub not_of : {A : Type 0} (test : A → Bool) (items : List A) (k : ℕ) (x : A) → slice_get items k ≡ Some x → holds_at test items k ≡ false → test x ≡ false
 not_of test items k x there none = rw (there, holds_at) at none
 
 -- and where it holds there is one of which it does
@@ -35,7 +34,8 @@ holding {A} test items k = by (slice_get items k) refl
     by None there e = false_true e
     by (Some x) there e = (k, x, there, e)
 
-enough : (b : Bool) (fault : RunFault) → is_ok {T = Unit {0}} (cond {A = Result (Unit {0}) RunFault} b (Err fault) (Ok tt)) ≡ true → b ≡ false
+-- a case with one place does not hold where what comes of it is no fault
+pub enough : {Fault : Type 0} (b : Bool) (fault : Fault) → is_ok {T = Unit {0}} (cond {A = Result (Unit {0}) Fault} b (Err fault) (Ok tt)) ≡ true → b ≡ false
 enough true fault e = false_true e
 enough false fault e = refl
 
