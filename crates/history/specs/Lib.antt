@@ -1,0 +1,13 @@
+pub mod Worlds
+pub mod Checks
+pub mod Calls
+pub mod Plays
+pub mod Histories
+pub mod Floods
+pub mod Settled
+pub mod Limits
+pub mod OneByOne
+pub mod Counted
+pub mod PlayLaws
+pub mod Worked
+pub mod WorkedCalls

@@ -1,0 +1,43 @@
+// What the calls of a run name and tell.
+
+use field::Damage;
+use flood::Verdict;
+use refusal::RunFault;
+
+// What a call names beside what it is lent: a sensor that is to be shown, or a damage.
+#[derive(Clone, Copy, PartialEq, Eq, Debug)]
+pub enum Named<Number> {
+    Nothing,
+    Sensor(u8),
+    Damaged(Damage<Number>),
+}
+
+// A copy, as it is taken: a row of the log.
+#[derive(Clone, Copy, PartialEq, Eq, Debug)]
+pub struct TakenCopy<Number> {
+    pub instant: u32,
+    pub from: u8,
+    pub to: u8,
+    pub hop: u8,
+    pub number: Number,
+    pub verdict: Verdict,
+}
+
+// What has been since a run began. A copy that was forwarded counts as accepted.
+#[derive(Clone, Copy, PartialEq, Eq, Debug)]
+pub struct Counts {
+    pub instants: u64,
+    pub floods: u64,
+    pub copies: u64,
+    pub lost: u64,
+    pub refused: u64,
+    pub accepted: u64,
+}
+
+// Why play ended.
+#[derive(Clone, Copy, PartialEq, Eq, Debug)]
+pub enum Ending {
+    BudgetSpent,
+    LogShort,
+    Refused(RunFault),
+}
