@@ -1,4 +1,5 @@
 -- Floods settle: what is told of a run at each of its steps, and what follows of its floods. Assumes nothing.
+use Rattle.std.proofs.lemmas.Option.{same_Some}
 use Rattle.std.proofs.Common.{◌≡◌, ℕ, suc, ◌<◌, ◌⊎◌, inl, inr, ⊎_elim, Bool, true, false, cond, eqb, List, [], ◌∷◌, length, Some, None, sym, refl, ap, ◌∙◌, subst, arith, eqb-true, eq-eqb, ne_eqb}
 use Rattle.std.specs.List.{slice_get}
 use Rattle.air.specs.Delays.{KeepsPeriods}
@@ -18,7 +19,7 @@ use Rattle.history.proofs.Checks.{opening_gives, links_kept}
 use Rattle.history.proofs.Keeping.{RowKept, row_kept}
 use Rattle.history.proofs.Kept.{Steps, kept, carried_from}
 use Rattle.history.proofs.Limits.{row_at, begun_in_limits, opened_in_limits, taken_in_limits, closed_in_limits, damaged_in_limits, sent_by, link_gives}
-use Rattle.history.proofs.Places.{some_is, none_is_some, there_is, at_changed}
+use Rattle.history.proofs.Places.{none_is_some, there_is, at_changed}
 use Rattle.history.proofs.Rows.{takes, BaseOpens, base_opens}
 use Rattle.history.proofs.Rows.BaseOpens.{Waits, Sends}
 use Rattle.history.proofs.Running.{RowsTell, FloodsTell, Tell, wait_tells, begin_tells, take_tells, close_tells}
@@ -43,7 +44,7 @@ module _ {Num : Type 0} where
       by :
           (b : Bool) → eqb k (length floods) ≡ b → cond b (Some latest) (flood_at floods k) ≡ Some flood
           → ((k ≡ length floods) × (flood ≡ latest)) ⊎ (flood_at floods k ≡ Some flood)
-      by true here e = inl (eqb-true k (length floods) here, sym (some_is latest flood e))
+      by true here e = inl (eqb-true k (length floods) here, sym (same_Some latest flood e))
       by false before e = inr e
 
   flood_latest : (latest : Flood Num) (floods : List (Flood Num)) (k : ℕ) → k ≡ length floods → flood_at (latest ∷ floods) k ≡ Some latest

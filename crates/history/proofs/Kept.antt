@@ -1,4 +1,5 @@
 -- What every step of a run keeps, a whole history keeps. Assumes nothing.
+use Rattle.std.proofs.lemmas.Option.{same_Some}
 use Rattle.std.proofs.Common.{◌≡◌, ℕ, zero, suc, ◌+◌, ◌<◌, ◌≤◌, Bool, true, false, List, [], ◌∷◌, ◌++◌, length, is_some, Some, None, Ok, Err, Option, Result, sym, refl, ap, ◌∙◌, subst, arith, leb-true}
 use Rattle.std.proofs.lemmas.Bool.{and_parts}
 use Rattle.std.specs.Prelude.{◌-◌, nat_le, nat_lt, slice_get}
@@ -9,7 +10,7 @@ use Rattle.field.specs.declared.Message.{Message}
 use Rattle.field.specs.declared.Row.{Row}
 use Rattle.field.specs.declared.Stage.TheVariants.{Between, Within}
 use Rattle.flood.specs.Copies.{message_on, copy_at, next_copy}
-use Rattle.history.proofs.Places.{some_is, none_is_some}
+use Rattle.history.proofs.Places.{none_is_some}
 use Rattle.history.specs.Calls.{can_open, may_open, may_close, declines_where, AfterCopy, opening, world_opened, carrying, copy_taken, next_taken, closing, world_closed, damaging, world_damaged, looking}
 use Rattle.history.specs.Checks.{checked}
 use Rattle.history.specs.declared.taking.Named.TheVariants.{Nothing, Damaged}
@@ -111,12 +112,12 @@ module _ {Num : Type 0} (lent : Lent Num) where
         link = link;
         message = message;
         row = row;
-        onward = subst (λ (p : ℕ). p ≤ place) (some_is start position (sym at ∙ here)) onward;
+        onward = subst (λ (p : ℕ). p ≤ place) (same_Some start position (sym at ∙ here)) onward;
         within = is.0;
         there = there;
         goes = goes;
         comes = comes;
-        taken = some_is _ next e;
+        taken = same_Some _ next e;
       }
 
   -- there is a next copy only within an instant

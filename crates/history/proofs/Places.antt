@@ -1,14 +1,12 @@
 -- What stands at a place, once each item is changed or one is set. Assumes nothing.
-use Rattle.std.proofs.Common.{◌≡◌, ℕ, zero, suc, ◌+◌, ◌<◌, ◌⊎◌, inl, inr, List, [], ◌∷◌, length, set, Some, None, sym, refl, ap, ◌∙◌, arith}
+use Rattle.std.proofs.lemmas.Option.{same_Some, none-some}
+use Rattle.std.proofs.Common.{◌≡◌, ℕ, zero, suc, ◌+◌, ◌<◌, ◌⊎◌, inl, inr, List, [], ◌∷◌, length, set, Some, None, Option, sym, refl, ap, ◌∙◌, arith}
 use Rattle.std.specs.List.{slice_get}
 use Rattle.flood.specs.Instants.{changed}
 
 module _ {A : Type 0} where
-  pub some_is : (x y : A) → ◌≡◌ {A = Rattle.std.specs.Prelude.Option A} (Some x) (Some y) → x ≡ y
-  some_is x y e = cc
-
-  pub none_is_some : {P : Type 0} (x : A) → ◌≡◌ {A = Rattle.std.specs.Prelude.Option A} None (Some x) → P
-  none_is_some x e = absurd cc
+  pub none_is_some : {P : Type 0} (x : A) → ◌≡◌ {A = Option A} None (Some x) → P
+  none_is_some x e = absurd (none-some x e)
 
   module _ (change : ℕ → A → A) where
     pub length_changed : (place n : ℕ) (xs : List A) → length (changed change place n xs) ≡ length xs
@@ -21,7 +19,7 @@ module _ {A : Type 0} where
     unfolding changed
     from place n k [] y h e = none_is_some y e
     from place zero k (x ∷ xs) y h e = absurd (omega arith)
-    from place (suc n) zero (x ∷ xs) y h e = (x, refl, sym (some_is (change place x) y e) ∙ ap (λ (i : ℕ). change i x) (omega arith))
+    from place (suc n) zero (x ∷ xs) y h e = (x, refl, sym (same_Some (change place x) y e) ∙ ap (λ (i : ℕ). change i x) (omega arith))
     from place (suc n) (suc k) (x ∷ xs) y h e =
         let there = from (suc place) n k xs y (omega arith) e in
         (there.0, there.1, there.2 ∙ ap (λ (i : ℕ). change i there.0) (omega arith))
@@ -36,7 +34,7 @@ module _ {A : Type 0} where
     unfolding changed
     onto place n k [] x h e = none_is_some x e
     onto place zero k (y ∷ xs) x h e = absurd (omega arith)
-    onto place (suc n) zero (y ∷ xs) x h e = ap (λ (z : A). Some (change place z)) (some_is y x e) ∙ ap (λ (i : ℕ). Some (change i x)) (omega arith)
+    onto place (suc n) zero (y ∷ xs) x h e = ap (λ (z : A). Some (change place z)) (same_Some y x e) ∙ ap (λ (i : ℕ). Some (change i x)) (omega arith)
     onto place (suc n) (suc k) (y ∷ xs) x h e = onto (suc place) n k xs x (omega arith) e ∙ ap (λ (i : ℕ). Some (change i x)) (omega arith)
 
     -- the other way round
@@ -46,7 +44,7 @@ module _ {A : Type 0} where
   -- after a set, what stands at a place was set there, or stood there
   pub set_at : (xs : List A) (t k : ℕ) (x y : A) → slice_get (set xs t x) k ≡ Some y → ((k ≡ t) × (y ≡ x)) ⊎ (slice_get xs k ≡ Some y)
   set_at [] t k x y e = none_is_some y e
-  set_at (z ∷ xs) zero zero x y e = inl (refl, sym (some_is x y e))
+  set_at (z ∷ xs) zero zero x y e = inl (refl, sym (same_Some x y e))
   set_at (z ∷ xs) zero (suc k) x y e = inr e
   set_at (z ∷ xs) (suc t) zero x y e = inr e
   set_at (z ∷ xs) (suc t) (suc k) x y e = by (set_at xs t k x y e)

@@ -1,4 +1,5 @@
 -- What is told of rows and floods while a run goes on, and that an opening, a copy and an ending keep it. Assumes nothing.
+use Rattle.std.proofs.lemmas.Option.{same_Some}
 use Rattle.std.proofs.Common.{◌≡◌, ℕ, zero, suc, ◌-◌, ◌<◌, ◌≤◌, Bool, true, false, cond, eqb, List, [], ◌∷◌, set, Some, None, Option, sym, refl, ap, ◌∙◌, subst, arith, eq-eqb, ne_eqb, eqb-true}
 use Rattle.std.specs.List.{slice_get}
 use Rattle.field.specs.declared.Message.{Message}
@@ -13,7 +14,7 @@ use Rattle.history.specs.Worlds.{Field}
 use Rattle.history.specs.declared.taking.TakenCopy.{TakenCopy}
 use Rattle.history.proofs.Keeping.{RowKept}
 use Rattle.history.proofs.Paces.{to_come, within_whole}
-use Rattle.history.proofs.Places.{some_is, none_is_some, changed_at, at_changed, at_set, at_other}
+use Rattle.history.proofs.Places.{none_is_some, changed_at, at_changed, at_set, at_other}
 use Rattle.history.proofs.Rows.{Takes, OtherOpens, other_opens}
 use Rattle.history.proofs.Tales.{held_after, Judged, NoneTo, Known, Left}
 use Rattle.history.proofs.Told.{EachRow, each_set, Paced, Numbered, paced_closed, numbered_closed, paced_taken, numbered_taken}
@@ -21,7 +22,7 @@ use Rattle.numbering.specs.Meaning.{Meaning}
 
 -- one and the same row, since both stand at a place
 same_row : {A : Type 0} (xs : List A) (k : ℕ) (x y : A) → slice_get xs k ≡ Some x → slice_get xs k ≡ Some y → x ≡ y
-same_row xs k x y e f = some_is x y (sym e ∙ f)
+same_row xs k x y e f = same_Some x y (sym e ∙ f)
 
 base_or_other : {P : Type 0} (sensor : ℕ) → (sensor ≡ 0 → P) → ((sensor ≡ 0 → ⊥) → P) → P
 base_or_other zero base other = base refl
@@ -98,7 +99,7 @@ module _ {Num : Type 0} (field : Field Num) where
         (λ other. others sensor from.0 next h other from.1 (subst (OtherOpens from.0) (sym from.2) (other_opens m s period instant sensor from.0 other)))
 
     base_next : (next : Row Num) → slice_get next_rows 0 ≡ Some next → next ≡ base_now
-    base_next next e = some_is next base_now (sym e ∙ at_changed (row_opened m s period instant) s.n 0 rows base base_within there)
+    base_next next e = same_Some next base_now (sym e ∙ at_changed (row_opened m s period instant) s.n 0 rows base base_within there)
 
     base_unmarked : {P : Type 0} (hop : ℕ) → base.mark ≡ Some hop → P
     base_unmarked hop e = absurd (((kept 0 base base_within there).marked hop e).0 refl)
@@ -131,14 +132,14 @@ module _ {Num : Type 0} (field : Field Num) where
 
     -- The base waits: the flood goes on.
     module _ (late : 1 < base.timer) (is : base_now ≡ waits base) where
-      quiet : {P : Type 0} (message : Message Num) → base_now.outgoing ≡ Some message → P
-      quiet message e = none_is_some message (ap (λ (row : Row Num). row.outgoing) (sym is) ∙ e)
+      sends_nothing : {P : Type 0} (message : Message Num) → base_now.outgoing ≡ Some message → P
+      sends_nothing message e = none_is_some message (ap (λ (row : Row Num). row.outgoing) (sym is) ∙ e)
 
       waits_paced : PacedRows rows → PacedRows next_rows
       waits_paced paced next e =
           let here : next.timer ≡ base.timer - 1 = ap (λ (row : Row Num). row.timer) (base_next next e ∙ is) in
           each_opened (λ sensor row. Paced s next.timer row)
-          (record { marked = λ hop f. base_unmarked hop (ap (λ (row : Row Num). row.mark) (sym is) ∙ f); sends = λ message f. quiet message f })
+          (record { marked = λ hop f. base_unmarked hop (ap (λ (row : Row Num). row.mark) (sym is) ∙ f); sends = λ message f. sends_nothing message f })
           (λ sensor row later h other at opens. record {
             marked = λ hop f.
                 let stood = opens.marked hop f in
@@ -151,7 +152,7 @@ module _ {Num : Type 0} (field : Field Num) where
       pub wait_tells : (floods : List (Flood Num)) → RowsTell rows floods → RowsTell next_rows floods
       wait_tells =
           rows_go_on rows next_rows waits_paced (λ flood left. opens_left flood (ap (λ (row : Row Num). row.held) is ∙ left.base base there) left.held)
-          (λ number numbered. opens_numbered number (λ message f. quiet message f) (ap (λ (row : Row Num). row.mark) is) (λ sensor row h e. (numbered sensor row h e).marked))
+          (λ number numbered. opens_numbered number (λ message f. sends_nothing message f) (ap (λ (row : Row Num). row.mark) is) (λ sensor row h e. (numbered sensor row h e).marked))
 
     -- The base sends: a flood begins.
     module _ (number : Num) (due : base.timer ≤ 1) (follows : m.next base.held ≡ Some number) (is : base_now ≡ base_sends s base number) where
@@ -159,7 +160,7 @@ module _ {Num : Type 0} (field : Field Num) where
       new = record { number = number; before = rows; copies = [] }
 
       message_is : (message : Message Num) → base_now.outgoing ≡ Some message → message ≡ record { hop = s.hmax; number = number }
-      message_is message e = some_is message (record { hop = s.hmax; number = number }) (sym e ∙ ap (λ (row : Row Num). row.outgoing) is)
+      message_is message e = same_Some message (record { hop = s.hmax; number = number }) (sym e ∙ ap (λ (row : Row Num). row.outgoing) is)
 
       begins_paced : PacedRows next_rows
       begins_paced next e =
@@ -294,25 +295,25 @@ module _ {Num : Type 0} (field : Field Num) where
 
   -- An instant ends.
   module _ (rows : List (Row Num)) where
-    row_from :
+    stood_at :
         (sensor : ℕ) (now : Row Num) → sensor < s.n → slice_get (closed s.n rows) sensor ≡ Some now
         → (row : Row Num) × (slice_get rows sensor ≡ Some row) × (now ≡ row_closed row)
-    row_from sensor now = changed_at (λ sensor. row_closed) s.n sensor rows now
+    stood_at sensor now = changed_at (λ sensor. row_closed) s.n sensor rows now
 
     closes_paced : PacedRows rows → PacedRows (closed s.n rows)
     closes_paced before base e sensor now h f =
-        let stood = row_from 0 base (omega (arith, s.n_least)) e in
-        let row = row_from sensor now h f in
+        let stood = stood_at 0 base (omega (arith, s.n_least)) e in
+        let row = stood_at sensor now h f in
         rw (row.2, stood.2) (paced_closed s stood.0.timer row.0 (before stood.0 stood.1 sensor row.0 h row.1))
 
     closes_left : (flood : Flood Num) → Left m s.n flood rows → Left m s.n flood (closed s.n rows)
     closes_left flood before = record {
-      held = λ sensor was now h far e f. (let row = row_from sensor now h f in ap (λ (r : Row Num). r.held) row.2 ∙ before.held sensor was row.0 h far e row.1);
-      base = λ base e. (let row = row_from 0 base (omega (arith, s.n_least)) e in ap (λ (r : Row Num). r.held) row.2 ∙ before.base row.0 row.1);
+      held = λ sensor was now h far e f. (let row = stood_at sensor now h f in ap (λ (r : Row Num). r.held) row.2 ∙ before.held sensor was row.0 h far e row.1);
+      base = λ base e. (let row = stood_at 0 base (omega (arith, s.n_least)) e in ap (λ (r : Row Num). r.held) row.2 ∙ before.base row.0 row.1);
     }
 
     closes_numbered : (number : Num) → NumberedRows number rows → NumberedRows number (closed s.n rows)
-    closes_numbered number before sensor now h f = (let row = row_from sensor now h f in rw row.2 (numbered_closed number row.0 (before sensor row.0 h row.1)))
+    closes_numbered number before sensor now h f = (let row = stood_at sensor now h f in rw row.2 (numbered_closed number row.0 (before sensor row.0 h row.1)))
 
     pub close_tells : (floods : List (Flood Num)) → RowsTell rows floods → RowsTell (closed s.n rows) floods
     close_tells = rows_go_on rows (closed s.n rows) closes_paced closes_left closes_numbered

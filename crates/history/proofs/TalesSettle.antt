@@ -1,4 +1,5 @@
 -- Floods that follow one another as told settle. Assumes nothing.
+use Rattle.std.proofs.lemmas.Option.{same_Some}
 use Rattle.std.proofs.Common.{◌≡◌, ℕ, zero, suc, ◌+◌, ◌<◌, ◌≤◌, Bool, true, false, cond, ◌&&◌, ◌||◌, inl, inr, List, [], ◌∷◌, length, Some, unwrap_or, sym, refl, ap, ◌∙◌, subst, arith, eqb-true, ne_eqb}
 use Rattle.std.proofs.lemmas.Bool.{eqb-false}
 use Rattle.std.specs.Prelude.{◌==◌}
@@ -9,7 +10,7 @@ use Rattle.flood.specs.declared.hearing.Verdict.TheVariants.{Lost, Refused, Acce
 use Rattle.history.specs.Floods.{hears_copy, Flood, hears, accepts, flood_at, verdicts_of, heard_by}
 use Rattle.history.specs.Settled.{AcceptsFirst, CarryNumber, PassUnheard, NoneMissed, LatestHeard, SettledFloods}
 use Rattle.history.specs.declared.taking.TakenCopy.{TakenCopy}
-use Rattle.history.proofs.Places.{some_is, none_is_some}
+use Rattle.history.proofs.Places.{none_is_some}
 use Rattle.history.proofs.Sequences.{OnePasses, NonePass, searched, Course, InStep, passes, settles_down}
 use Rattle.history.proofs.Tales.{held_after, Judged, NoneTo, Known, Left, Tale, Alone}
 use Rattle.numbering.specs.Meaning.{Meaning, Lawful, KeepsLawful, Settles}
@@ -108,7 +109,7 @@ module _
   row_lawful : (flood : Flood Num) (sensor : ℕ) (row : Row Num) → Known m n flood → sensor < n → slice_get flood.before sensor ≡ Some row → Lawful m row.held
   row_lawful flood sensor row known less e =
       let stands = known.rows sensor less in
-      subst (λ (r : Row Num). Lawful m r.held) (some_is stands.0 row (sym stands.1 ∙ e)) stands.2
+      subst (λ (r : Row Num). Lawful m r.held) (same_Some stands.0 row (sym stands.1 ∙ e)) stands.2
 
   -- a sensor that is not the base, from the first flood on up to another
   module _

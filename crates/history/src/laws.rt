@@ -13,7 +13,7 @@ ghost use Rattle.history.specs.Worlds.{Lent, OnEveryField};
 use field::Settings;
 use numbering::Numbering;
 
-// Floods settle.
+// Floods settle: docs/RULES.md says what that is.
 #[tactic(auto, using(crate::proofs::Floods::floods_settle))]
 pub fn floods_settle<N: Numbering>(numbering: &N, settings: Settings)
     ensures { OnEveryField (N.Numbering.meaning numbering.now) settings FloodsSettle }
