@@ -21,8 +21,8 @@ use Rattle.search.proofs.Places.{nowhere, none_found}
 use Rattle.search.specs.Lowest.{looked_for}
 use Rattle.vetting.proofs.Vets.{not_of, enough}
 use Rattle.vetting.specs.Vetted.{holds_at, bad_link, linked}
-use Rattle.history.specs.Calls.{may_open, declines_where, begun, no_number, world_opened, opening, damaged_row, world_damaged, damaging}
-use Rattle.history.specs.Checks.{checked, checked_first, named_places, no_sensor, sensors_case, links_case, repeats_case, count_case, first_rows_case, bad_row, bad_byte, bad_damage, rows_case, short_case}
+use Rattle.history.specs.Calls.{may_open, begun, no_number, world_opened, opening, damaged_row, world_damaged, damaging}
+use Rattle.history.specs.Checks.{checked, checked_first, named_places, no_sensor, sensors_case, links_case, repeats_case, count_case, first_rows_case, bad_row, bad_byte, bad_damage, rows_case, short_case, declines_where}
 use Rattle.history.specs.declared.taking.Named.{Named}
 use Rattle.history.specs.declared.taking.Named.TheVariants.{Nothing, Damaged}
 use Rattle.history.specs.Limits.{stage_of, LinksKeep, InLimits, Fits}

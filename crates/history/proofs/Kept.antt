@@ -11,8 +11,8 @@ use Rattle.field.specs.declared.Row.{Row}
 use Rattle.field.specs.declared.Stage.TheVariants.{Between, Within}
 use Rattle.flood.specs.Copies.{message_on, copy_at, next_copy}
 use Rattle.history.proofs.Places.{none_is_some}
-use Rattle.history.specs.Calls.{can_open, may_open, may_close, declines_where, AfterCopy, opening, world_opened, carrying, copy_taken, next_taken, closing, world_closed, damaging, world_damaged, looking}
-use Rattle.history.specs.Checks.{checked}
+use Rattle.history.specs.Calls.{can_open, may_open, may_close, AfterCopy, opening, world_opened, carrying, copy_taken, next_taken, closing, world_closed, damaging, world_damaged, looking}
+use Rattle.history.specs.Checks.{checked, declines_where}
 use Rattle.history.specs.declared.taking.Named.TheVariants.{Nothing, Damaged}
 use Rattle.history.specs.Floods.{through}
 use Rattle.history.specs.Histories.{Call, Outcome, only_answers, called_between, called_within, called, history, moves_on, takes_on, shows, plays_on}

@@ -1,5 +1,5 @@
 -- What each call of a run makes of where it stands. Assumes nothing.
-use Rattle.std.specs.Prelude.{ℕ, suc, ◌+◌, Bool, false, cond, not, List, take, set, is_some, Some, None, Ok, Err, Option, Result, ◌==◌, slice_get}
+use Rattle.std.specs.Prelude.{ℕ, suc, ◌+◌, Bool, false, cond, not, List, take, set, is_some, Some, None, Ok, Option, Result, ◌==◌, slice_get}
 use Rattle.checking.specs.Cases.{then}
 use Rattle.field.specs.declared.Damage.{Damage}
 use Rattle.field.specs.declared.Link.{Link}
@@ -13,15 +13,11 @@ use Rattle.flood.specs.declared.hearing.Verdict.{Verdict}
 use Rattle.flood.specs.declared.hearing.Verdict.TheVariants.{Lost, Refused, Accepted, Forwards}
 use Rattle.refusal.specs.declared.RunFault.{RunFault}
 use Rattle.refusal.specs.declared.RunFault.TheVariants.{LastInstant, NoNumber, CopyLeft}
-use Rattle.history.specs.Checks.{checked, checked_first}
+use Rattle.history.specs.Checks.{checked, checked_first, declines_where}
 use Rattle.history.specs.declared.taking.Named.TheVariants.{Nothing, Sensor, Damaged}
 use Rattle.history.specs.Worlds.{Field, Lent, World, told_links}
 use Rattle.history.specs.declared.taking.Counts.{Counts}
 use Rattle.history.specs.declared.taking.TakenCopy.{TakenCopy}
-
--- a case that is about no place: 12, 13 and 14
-abbrev pub declines_where : Bool → RunFault → Result (Unit {0}) RunFault
-declines_where holds fault = cond holds (Err fault) (Ok tt)
 
 abbrev pub none_yet : Counts
 none_yet = record { instants = 0; floods = 0; copies = 0; lost = 0; refused = 0; accepted = 0 }

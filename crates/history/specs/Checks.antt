@@ -4,7 +4,7 @@ use Rattle.checking.specs.Cases.{then}
 use Rattle.field.specs.declared.Row.{Row}
 use Rattle.field.specs.declared.Stage.{Stage}
 use Rattle.field.specs.declared.Stage.TheVariants.{Beginning}
-use Rattle.field.specs.Rows.{clock_keeps, ends_within, link_keeps, row_keeps}
+use Rattle.field.specs.Rows.{ends_within, link_keeps, row_keeps}
 use Rattle.flood.specs.Instants.{byte_of}
 use Rattle.refusal.specs.Carried.{in_field}
 use Rattle.refusal.specs.declared.FieldFault.{FieldFault}
@@ -12,10 +12,16 @@ use Rattle.refusal.specs.declared.FieldFault.TheVariants.{NoSensor, BadLink, Too
 use Rattle.refusal.specs.declared.RunFault.{RunFault}
 use Rattle.refusal.specs.declared.RunFault.TheVariants.{ShortBuffer}
 use Rattle.search.specs.Lowest.{looked_for}
+use Rattle.field.specs.declared.Act.TheVariants.{Damage as Damages}
+use Rattle.vetting.specs.Acts.{breaks_limits}
 use Rattle.vetting.specs.Vetted.{holds_at, bad_link}
 use Rattle.history.specs.declared.taking.Named.{Named}
 use Rattle.history.specs.declared.taking.Named.TheVariants.{Nothing, Sensor, Damaged}
 use Rattle.history.specs.Worlds.{Field, told_links}
+
+-- a case that is not looked for at places: 8, and 11 to 14
+abbrev pub declines_where : {Fault : Type 0} → Bool → Fault → Result (Unit {0}) Fault
+declines_where holds fault = cond holds (Err fault) (Ok tt)
 
 -- the sensor that a call names, if it names one
 abbrev pub named_sensor : {Num : Type 0} → Named Num → Option ℕ
@@ -50,7 +56,7 @@ module _ {Num : Type 0} (field : Field Num) where
 
   -- 8: more links are told than a field may have
   abbrev pub count_case : Result (Unit {0}) FieldFault
-  count_case = cond (nat_lt 1024 field.count) (Err (TooMany 1024)) (Ok tt)
+  count_case = declines_where (nat_lt 1024 field.count) (TooMany 1024)
 
   -- 9: a row breaks its limits at this stage
   abbrev pub bad_row : Stage → List (Row Num) → ℕ → Bool
@@ -64,8 +70,7 @@ module _ {Num : Type 0} (field : Field Num) where
   abbrev pub bad_damage : Named Num → ℕ → Bool
   bad_damage Nothing k = false
   bad_damage (Sensor sensor) k = false
-  bad_damage (Damaged damage) k =
-      k == damage.sensor && not (clock_keeps field.settings.hmax field.settings.tmax field.settings.f damage.sensor damage.timer damage.mark && field.numbering.lawful damage.held)
+  bad_damage (Damaged damage) k = k == damage.sensor && breaks_limits field.numbering field.settings (Damages damage)
 
   unfoldable pub rows_case : Named Num → Stage → List (Row Num) → List ℕ → Result (Unit {0}) FieldFault
   rows_case named stage rows senders =
@@ -78,7 +83,7 @@ module _ {Num : Type 0} (field : Field Num) where
   -- 11: a buffer is shorter than the field
   abbrev pub short_case : List (Row Num) → List ℕ → Result (Unit {0}) RunFault
   short_case rows senders =
-      cond (nat_lt (length rows) field.settings.n || (nat_lt (length senders) field.settings.n || nat_lt (length field.links) field.count)) (Err ShortBuffer) (Ok tt)
+      declines_where (nat_lt (length rows) field.settings.n || (nat_lt (length senders) field.settings.n || nat_lt (length field.links) field.count)) ShortBuffer
 
   -- What is there is looked at, each case everywhere before the next; then 11.
   unfoldable pub checked : Named Num → Stage → List (Row Num) → List ℕ → Result (Unit {0}) RunFault

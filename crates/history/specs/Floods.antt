@@ -41,7 +41,7 @@ module _ {Num : Type 0} where
   -- a copy joins the latest flood, where one began
   abbrev pub joined : TakenCopy Num → List (Flood Num) → List (Flood Num)
   joined copy [] = []
-  joined copy (flood ∷ floods) = record { number = flood.number; before = flood.before; copies = copy ∷ flood.copies } ∷ floods
+  joined copy (flood ∷ floods) = record flood { copies = copy ∷ flood.copies } ∷ floods
 
   -- what becomes of the floods since the last damage, the latest first, with one thing more that happened: a damage leaves none
   abbrev pub noted : List (Flood Num) → Event Num → List (Flood Num)

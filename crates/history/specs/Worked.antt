@@ -57,13 +57,13 @@ lent links = lent_with (differentiated 2) links (length links)
 
 -- sensor 1 hears the base, and sensors 1 and 2 hear each other
 abbrev pub links : List Link
-links = link_of 0 1 ∷ (link_of 1 2 ∷ (link_of 2 1 ∷ []))
+links = link_of 0 1 ∷ link_of 1 2 ∷ link_of 2 1 ∷ []
 
 abbrev pub rows : List (Row ℕ)
-rows = row_of 1 0 ∷ (row_of 2 1 ∷ (row_of 1 0 ∷ []))
+rows = row_of 1 0 ∷ row_of 2 1 ∷ row_of 1 0 ∷ []
 
 abbrev pub senders : List ℕ
-senders = 0 ∷ (0 ∷ (0 ∷ []))
+senders = 0 ∷ 0 ∷ 0 ∷ []
 
 -- between instants, with nothing counted
 abbrev pub between : List (Row ℕ) → List ℕ → ℕ → World ℕ
@@ -78,7 +78,7 @@ copy_of instant from to hop number verdict = record { instant = instant; from = 
 pub record Worked : Type 0 where
   pub begins : begun (lent links).field rows senders ≡ Ok first
   -- three copies in the first 8 instants
-  pub logs : copies_in (playing (lent links) 8 3 first).events ≡ copy_of 1 0 1 2 1 Refused ∷ (copy_of 6 0 1 2 2 Forwards ∷ (copy_of 8 1 2 1 2 Accepted ∷ []))
+  pub logs : copies_in (playing (lent links) 8 3 first).events ≡ copy_of 1 0 1 2 1 Refused ∷ copy_of 6 0 1 2 2 Forwards ∷ copy_of 8 1 2 1 2 Accepted ∷ []
   pub plays : (playing (lent links) 8 3 first).instants ≡ 8
   pub ends : (playing (lent links) 8 3 first).ending ≡ BudgetSpent
 
@@ -107,7 +107,7 @@ floods = without_first (floods_told (history (lent more_links) (Play 21 100 ∷ 
 pub record NotVacuous : Type 0 where
   pub begins : begun (lent more_links).field rows senders ≡ Ok first
   pub periods_keep : KeepsPeriods slowest_period
-  pub numbers : map (λ flood. flood.number) floods ≡ 2 ∷ (1 ∷ (0 ∷ (2 ∷ [])))
+  pub numbers : map (λ flood. flood.number) floods ≡ 2 ∷ 1 ∷ 0 ∷ 2 ∷ []
   -- at the end of the first C, and in the flood after
-  pub third : Asked (differentiated 2) 3 floods 2 (λ x b. 2) 1 2 (Refused ∷ (Forwards ∷ []))
+  pub third : Asked (differentiated 2) 3 floods 2 (λ x b. 2) 1 2 (Refused ∷ Forwards ∷ [])
   pub fourth : Asked (differentiated 2) 3 floods 2 (λ x b. 2) 1 3 (Forwards ∷ [])
