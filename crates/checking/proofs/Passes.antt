@@ -1,6 +1,7 @@
 -- Where a file passes, no case holds at any of its places. Assumes nothing.
 use Rattle.std.proofs.Common.{◌≡◌, ℕ, ◌+◌, ◌<◌, true, false, List, is_ok, Ok, Err, Result, refl, arith}
 use Rattle.std.proofs.lemmas.Bool.{and_parts, not-false}
+use Rattle.std.specs.Result.{result_and}
 use Rattle.refusal.specs.Carried.{in_field}
 use Rattle.refusal.specs.declared.FieldFault.{FieldFault}
 use Rattle.refusal.specs.declared.RecordFault.{RecordFault}
@@ -12,19 +13,19 @@ use Rattle.checking.specs.declared.cases.FieldCase.{FieldCase}
 use Rattle.checking.specs.declared.cases.FieldCase.TheVariants.{Order, Setting, Ends, Links, Count, Rows, Losses}
 use Rattle.checking.specs.declared.cases.RecordCase.{RecordCase}
 use Rattle.checking.specs.declared.cases.RecordCase.TheVariants.{Length, Kind, Zero}
-use Rattle.checking.specs.Cases.{unknown_kind, no_sensor, bad_link, too_many, no_link, record_places, record_at, record_fault, record_case, field_places, field_at, field_fault, field_case, records_checked, in_record, then, file_checked, file_code, file_n, file_hmax, file_tmax, file_smax, file_f, bad_length, not_zero, out_of_order, bad_setting, bad_row}
+use Rattle.checking.specs.Cases.{unknown_kind, no_sensor, bad_link, too_many, no_link, record_places, record_at, record_fault, record_case, field_places, field_at, field_fault, field_case, records_checked, in_record, file_checked, file_code, file_n, file_hmax, file_tmax, file_smax, file_f, bad_length, not_zero, out_of_order, bad_setting, bad_row}
 
 pub false_true : {P : Type 0} → false ≡ true → P
 false_true e = absurd cc
 
 -- of two checks that pass one after the other, each passes
-pub then_first : {A F : Type 0} (a : Result (Unit {0}) F) (b : Result A F) → is_ok (then a b) ≡ true → is_ok a ≡ true
-then_first (Ok t) b e = refl
-then_first (Err fault) b e = e
+pub first_passes : {A F : Type 0} (a : Result (Unit {0}) F) (b : Result A F) → is_ok (result_and a b) ≡ true → is_ok a ≡ true
+first_passes (Ok t) b e = refl
+first_passes (Err fault) b e = e
 
-pub then_second : {A F : Type 0} (a : Result (Unit {0}) F) (b : Result A F) → is_ok (then a b) ≡ true → is_ok b ≡ true
-then_second (Ok t) b e = e
-then_second (Err fault) b e = false_true e
+pub second_passes : {A F : Type 0} (a : Result (Unit {0}) F) (b : Result A F) → is_ok (result_and a b) ≡ true → is_ok b ≡ true
+second_passes (Ok t) b e = e
+second_passes (Err fault) b e = false_true e
 
 in_record_passes : (a : Result (Unit {0}) RecordFault) → is_ok (in_record a) ≡ true → is_ok a ≡ true
 in_record_passes (Ok t) e = e
@@ -59,25 +60,25 @@ module _ (file : List ℕ) where
 
   pub passed : is_ok (file_checked file) ≡ true → Passed
   passed ok =
-      let records_pass = in_record_passes (records_checked file) (then_first (in_record (records_checked file)) _ ok) in
-      let after_length = then_second (record_case file Length) _ records_pass in
-      let fields_pass = then_second (in_record (records_checked file)) _ ok in
-      let after_order = then_second (field_case file Order) _ fields_pass in
-      let after_setting = then_second (field_case file Setting) _ after_order in
-      let after_ends = then_second (field_case file Ends) _ after_setting in
-      let after_links = then_second (field_case file Links) _ after_ends in
-      let after_count = then_second (field_case file Count) _ after_links in
+      let records_pass = in_record_passes (records_checked file) (first_passes (in_record (records_checked file)) _ ok) in
+      let after_length = second_passes (record_case file Length) _ records_pass in
+      let fields_pass = second_passes (in_record (records_checked file)) _ ok in
+      let after_order = second_passes (field_case file Order) _ fields_pass in
+      let after_setting = second_passes (field_case file Setting) _ after_order in
+      let after_ends = second_passes (field_case file Ends) _ after_setting in
+      let after_links = second_passes (field_case file Links) _ after_ends in
+      let after_count = second_passes (field_case file Count) _ after_links in
       record {
-        length_right = record_nowhere Length (then_first (record_case file Length) _ records_pass) 0 (omega arith);
-        known = record_nowhere Kind (then_first (record_case file Kind) _ after_length);
-        zeroed = record_nowhere Zero (then_second (record_case file Kind) _ after_length);
-        ordered = field_nowhere Order (then_first (field_case file Order) _ fields_pass);
-        set = field_nowhere Setting (then_first (field_case file Setting) _ after_order) 0 (omega arith);
-        within = field_nowhere Ends (then_first (field_case file Ends) _ after_setting);
-        links_keep = field_nowhere Links (then_first (field_case file Links) _ after_ends);
-        few = field_nowhere Count (then_first (field_case file Count) _ after_links);
-        rows_keep = field_nowhere Rows (then_first (field_case file Rows) _ after_count);
-        linked_losses = field_nowhere Losses (then_second (field_case file Rows) _ after_count);
+        length_right = record_nowhere Length (first_passes (record_case file Length) _ records_pass) 0 (omega arith);
+        known = record_nowhere Kind (first_passes (record_case file Kind) _ after_length);
+        zeroed = record_nowhere Zero (second_passes (record_case file Kind) _ after_length);
+        ordered = field_nowhere Order (first_passes (field_case file Order) _ fields_pass);
+        set = field_nowhere Setting (first_passes (field_case file Setting) _ after_order) 0 (omega arith);
+        within = field_nowhere Ends (first_passes (field_case file Ends) _ after_setting);
+        links_keep = field_nowhere Links (first_passes (field_case file Links) _ after_ends);
+        few = field_nowhere Count (first_passes (field_case file Count) _ after_links);
+        rows_keep = field_nowhere Rows (first_passes (field_case file Rows) _ after_count);
+        linked_losses = field_nowhere Losses (second_passes (field_case file Rows) _ after_count);
       }
 
   -- and where no case holds anywhere, a file passes

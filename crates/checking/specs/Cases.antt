@@ -1,5 +1,6 @@
 -- The cases in which a file is refused: each a test at a place. Assumes nothing.
 use Rattle.std.specs.Prelude.{ℕ, ◌+◌, ◌-◌, ◌%◌, Bool, cond, not, ◌&&◌, ◌||◌, List, length, is_some, Some, None, Ok, Err, Option, Result, ◌==◌, nat_le, nat_lt}
+use Rattle.std.specs.Result.{result_and}
 use Rattle.records.specs.declared.Kind.{Kind as RecordKind}
 use Rattle.records.specs.declared.Kind.TheVariants.{Field, Sensor, Link, Loss, Play}
 use Rattle.records.specs.Records.{records, byte, two_bytes, four_bytes, is_kind}
@@ -193,18 +194,13 @@ record_case file case = looked_for (record_fault case) (record_places file case)
 unfoldable pub field_case : List ℕ → FieldCase → Result (Unit {0}) FieldFault
 field_case file case = looked_for (field_fault case) (field_places file case) (field_at file case)
 
--- what is wrong first, or else what comes next
-abbrev pub then : {A F : Type 0} → Result (Unit {0}) F → Result A F → Result A F
-then (Ok t) next = next
-then (Err fault) next = Err fault
-
 -- Each case is looked for everywhere before the next.
 abbrev pub records_checked : List ℕ → Result (Unit {0}) RecordFault
-records_checked file = then (record_case file Length) (then (record_case file Kind) (record_case file Zero))
+records_checked file = result_and (record_case file Length) (result_and (record_case file Kind) (record_case file Zero))
 
 abbrev pub fields_checked : List ℕ → Result (Unit {0}) FieldFault
 fields_checked file =
-    then (field_case file Order) (then (field_case file Setting) (then (field_case file Ends) (then (field_case file Links) (then (field_case file Count) (then (field_case file Rows) (field_case file Losses))))))
+    result_and (field_case file Order) (result_and (field_case file Setting) (result_and (field_case file Ends) (result_and (field_case file Links) (result_and (field_case file Count) (result_and (field_case file Rows) (field_case file Losses))))))
 
 -- the whole check of a file
 abbrev pub in_record : Result (Unit {0}) RecordFault → Result (Unit {0}) FieldFault
@@ -212,4 +208,4 @@ in_record (Ok t) = Ok t
 in_record (Err fault) = Err (Record fault)
 
 abbrev pub file_checked : List ℕ → Result (Unit {0}) FieldFault
-file_checked file = then (in_record (records_checked file)) (fields_checked file)
+file_checked file = result_and (in_record (records_checked file)) (fields_checked file)

@@ -1,10 +1,11 @@
 -- The limits of a row and of a link. Assumes nothing.
-use Rattle.std.specs.Prelude.{ℕ, Bool, true, false, cond, not, ◌&&◌, Some, None, Option, ◌==◌, nat_le, nat_lt}
+use Rattle.std.specs.Prelude.{ℕ, Bool, true, false, cond, not, ◌&&◌, is_some, Some, None, Option, ◌==◌, nat_le, nat_lt}
 use Rattle.numbering.specs.Meaning.{Meaning}
 use Rattle.field.specs.declared.limits.Limits.{Limits}
 use Rattle.field.specs.declared.limits.Stage.{Stage}
 use Rattle.field.specs.declared.limits.Stage.TheVariants.{Beginning, Between, Within}
 use Rattle.field.specs.declared.links.Ends.{Ends}
+use Rattle.field.specs.declared.parts.Damage.{Damage}
 use Rattle.field.specs.declared.parts.Link.{Link}
 use Rattle.field.specs.declared.parts.Message.{Message}
 use Rattle.field.specs.declared.parts.Row.{Row}
@@ -40,9 +41,17 @@ module _ {Num : Type 0} (m : Meaning Num) (s : Settings) where
   outgoing_keeps Within None = true
   outgoing_keeps Within (Some message) = message_keeps message
 
+  -- what a damage would write keeps them
+  abbrev pub damage_keeps : Damage Num → Bool
+  damage_keeps damage = clock_keeps s.hmax s.tmax s.f damage.sensor damage.timer damage.mark && m.lawful damage.held
+
   -- the limits of a sensor's row
   abbrev pub row_keeps : Stage → ℕ → Row Num → Bool
   row_keeps stage sensor row = clock_keeps s.hmax s.tmax s.f sensor row.timer row.mark && (m.lawful row.held && outgoing_keeps stage row.outgoing)
+
+-- the byte of a sensor: 1 with something to send, and else 0
+abbrev pub sender_byte : {Num : Type 0} → Row Num → ℕ
+sender_byte row = cond (is_some row.outgoing) 1 0
 
 abbrev pub ends_of : ℕ → ℕ → Ends
 ends_of from to = record { from = from; to = to }

@@ -1,8 +1,8 @@
 // The limits of rows.
 ghost use Rattle.std.specs.Prelude.{◌≡◌};
-ghost use Rattle.field.specs.Rows.{clock_keeps, mark_keeps, outgoing_keeps, row_keeps, limits_of};
+ghost use Rattle.field.specs.Rows.{clock_keeps, damage_keeps, mark_keeps, outgoing_keeps, row_keeps, limits_of, sender_byte};
 
-use crate::parts::{Message, Row};
+use crate::parts::{Damage, Message, Row};
 use crate::settings::Settings;
 use numbering::Numbering;
 
@@ -57,6 +57,18 @@ impl Settings {
     }
 }
 
+impl<Number: Copy> Row<Number> {
+    // The byte of the sensor whose row this is: 1 while it has something to send, and else 0.
+    pub fn sender_byte(&self) -> u8
+        ensures { result ≡ sender_byte self.now }
+    {
+        match self.outgoing {
+            Some(_) => 1,
+            None => 0,
+        }
+    }
+}
+
 // What a field is played by: a numbering, and settings.
 #[derive(Drop)]
 pub struct Rules<'a, N: Numbering> {
@@ -75,6 +87,17 @@ impl<N: Numbering> Rules<'_, N> {
             (Stage::Within, Some(message)) => message.hop <= self.settings.hmax
                 && self.numbering.lawful(message.number),
         }
+    }
+
+    // Does what a damage would write keep its limits?
+    pub fn damage_keeps(&self, damage: Damage<N::Number>) -> bool
+        ensures { result ≡ damage_keeps (N.Numbering.meaning self.now.numbering.now) self.now.settings damage }
+    {
+        let sensor = usize::from(damage.sensor);
+        self.settings
+            .limits()
+            .keep(sensor, damage.timer, damage.mark)
+            && self.numbering.lawful(damage.held)
     }
 
     // Does a sensor's row keep its limits?

@@ -1,10 +1,11 @@
 -- What an instant makes of rows and sender bytes, as it opens and as it ends. Assumes nothing.
-use Rattle.std.specs.Prelude.{ℕ, zero, suc, cond, List, [], ◌∷◌, is_some, Some, None, Option, ◌==◌}
+use Rattle.std.specs.Prelude.{ℕ, zero, suc, cond, List, [], ◌∷◌, Some, None, Option, ◌==◌}
 use Rattle.std.specs.List.{slice_get}
 use Rattle.std.specs.Option.{unwrap_or}
 use Rattle.numbering.specs.Meaning.{Meaning}
 use Rattle.field.specs.declared.Row.{Row}
 use Rattle.field.specs.declared.Settings.{Settings}
+use Rattle.field.specs.Rows.{sender_byte}
 use Rattle.flood.specs.Sensors.{base_opened, other_opened}
 
 -- The first n items changed each by itself, with its place, which is counted from `place`; the others are as they were.
@@ -22,10 +23,10 @@ module _ {Num : Type 0} (m : Meaning Num) (s : Settings) (period : ℕ → ℕ �
   abbrev pub opened : List (Row Num) → List (Row Num)
   opened = changed row_opened 0 s.n
 
--- a sensor with something to send has the byte 1, and any other 0
+-- the byte of a sensor, by its row; one without a row has nothing to send
 abbrev pub byte_of : {Num : Type 0} → Option (Row Num) → ℕ
 byte_of None = 0
-byte_of (Some row) = cond (is_some row.outgoing) 1 0
+byte_of (Some row) = sender_byte row
 
 -- the sender bytes of an open instant, by its rows
 abbrev pub sending : {Num : Type 0} → List (Row Num) → ℕ → List ℕ → List ℕ

@@ -26,16 +26,18 @@ fn accepted<Number: Copy>(message: Message<Number>, row: Row<Number>) -> Taken<N
     ensures { result ≡ accepted message row }
 {
     let held = message.number;
-    if message.hop >= 2 && row.mark.is_none() {
-        let mark = Some(message.hop - 1);
-        return Taken {
-            verdict: Verdict::Forwards,
-            row: Row { held, mark, ..row },
-        };
-    }
-    Taken {
-        verdict: Verdict::Accepted,
-        row: Row { held, ..row },
+    match row.mark {
+        None if message.hop >= 2 => {
+            let mark = Some(message.hop - 1);
+            Taken {
+                verdict: Verdict::Forwards,
+                row: Row { held, mark, ..row },
+            }
+        }
+        _ => Taken {
+            verdict: Verdict::Accepted,
+            row: Row { held, ..row },
+        },
     }
 }
 

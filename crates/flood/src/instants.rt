@@ -53,13 +53,13 @@ pub fn open_rows<N: Numbering, D: DelayRule>(
     })
 }
 
-// A sensor with something to send has the byte 1.
+// A sensor without a row has nothing to send.
 fn byte_of<Number: Copy>(rows: &[Row<Number>], sensor: u8) -> u8
     ensures { result ≡ byte_of (slice_get rows.now sensor) }
 {
     match rows.get(usize::from(sensor)) {
-        Some(row) if row.outgoing.is_some() => 1,
-        _ => 0,
+        Some(row) => row.sender_byte(),
+        None => 0,
     }
 }
 

@@ -48,10 +48,14 @@ pub fn open_other<Number: Copy, D: DelayRule>(
         return waits(row);
     }
     let number = row.held;
+    let outgoing = match row.mark {
+        Some(hop) => Some(Message { hop, number }),
+        None => None,
+    };
     Row {
         timer: u16::from(delay.period(tmax, instant, sensor)),
         held: number,
         mark: None,
-        outgoing: row.mark.map(|hop| Message { hop, number }),
+        outgoing,
     }
 }

@@ -6,7 +6,9 @@ use Rattle.field.specs.declared.Row.{Row}
 use Rattle.history.proofs.Kept.{Steps, kept, granted_ok, ok_is, opening_is, damaging_is, carried_from}
 use Rattle.flood.specs.Copies.{outgoing_of}
 use Rattle.history.specs.Calls.{AfterCopy, none_yet, counted_open, counted_copy, opening, world_opened, copy_taken, world_closed, world_damaged}
-use Rattle.history.specs.Checks.{checked_first}
+use Rattle.field.specs.declared.Stage.TheVariants.{Between}
+use Rattle.vetting.specs.declared.Named.TheVariants.{Nothing}
+use Rattle.history.specs.Checks.{checked, checked_first}
 use Rattle.history.specs.Counted.{opens, begins, takes, Counted, CountsTell}
 use Rattle.history.specs.Floods.{through, hears, accepts, refuses}
 use Rattle.history.specs.Histories.{history}
@@ -84,5 +86,6 @@ module _ {Num : Type 0} where
   counts_tell field rows senders period carries periods start e calls =
       let lent : Lent Num = record { field = field; period = period; carries = carries } in
       let begins : start.counts ≡ none_yet = ap (λ (w : World Num). w.counts) (sym (ok_is _ start (granted_ok (checked_first field rows senders) _ start e))) in
-      let events = (history lent calls start).events in
-      subst (λ (c : Counts). Counted c events) (sym (kept lent tallied (Tallied lent) (tallies lent) calls start none_yet begins)) (tallied_counts events)
+      let went = history lent calls start in
+      let tell : Counted went.world.counts went.events = subst (λ (c : Counts). Counted c went.events) (sym (kept lent tallied (Tallied lent) (tallies lent) calls start none_yet begins)) (tallied_counts went.events) in
+      (tell, λ counts finishes. subst (λ (c : Counts). Counted c went.events) (ok_is _ counts (granted_ok (checked field Nothing Between went.world.rows went.world.senders) _ counts finishes)) tell)

@@ -3,7 +3,7 @@ use Rattle.std.proofs.lemmas.Option.{same_Some}
 use Rattle.std.proofs.Common.{◌≡◌, ℕ, zero, suc, ◌+◌, ◌<◌, ◌≤◌, Bool, true, false, List, [], ◌∷◌, ◌++◌, length, is_some, Some, None, Ok, Err, Option, Result, sym, refl, ap, ◌∙◌, subst, arith, leb-true}
 use Rattle.std.proofs.lemmas.Bool.{and_parts}
 use Rattle.std.specs.Prelude.{◌-◌, nat_le, nat_lt, slice_get}
-use Rattle.checking.specs.Cases.{then}
+use Rattle.std.specs.Result.{result_and}
 use Rattle.field.specs.declared.Damage.{Damage}
 use Rattle.field.specs.declared.Link.{Link}
 use Rattle.field.specs.declared.Message.{Message}
@@ -12,8 +12,9 @@ use Rattle.field.specs.declared.Stage.TheVariants.{Between, Within}
 use Rattle.flood.specs.Copies.{message_on, copy_at, next_copy}
 use Rattle.history.proofs.Places.{none_is_some}
 use Rattle.history.specs.Calls.{can_open, may_open, may_close, AfterCopy, opening, world_opened, carrying, copy_taken, next_taken, closing, world_closed, damaging, world_damaged, looking}
-use Rattle.history.specs.Checks.{checked, declines_where}
-use Rattle.history.specs.declared.taking.Named.TheVariants.{Nothing, Damaged}
+use Rattle.vetting.specs.Cases.{declines_where}
+use Rattle.history.specs.Checks.{checked}
+use Rattle.vetting.specs.declared.Named.TheVariants.{Nothing, Damaged}
 use Rattle.history.specs.Floods.{through}
 use Rattle.history.specs.Histories.{Call, Outcome, only_answers, called_between, called_within, called, history, moves_on, takes_on, shows, plays_on}
 use Rattle.history.specs.Histories.Call.{Open, Carry, Close, Damaging, Look, Play}
@@ -33,7 +34,7 @@ unfolding through
 through_joined note [] ys a = refl
 through_joined note (x ∷ xs) ys a = through_joined note xs ys (note a x)
 
-pub granted_ok : {A : Type 0} (c : Result (Unit {0}) RunFault) (rest : Result A RunFault) (x : A) → then c rest ≡ Ok x → rest ≡ Ok x
+pub granted_ok : {A : Type 0} (c : Result (Unit {0}) RunFault) (rest : Result A RunFault) (x : A) → result_and c rest ≡ Ok x → rest ≡ Ok x
 granted_ok (Ok t) rest x e = e
 granted_ok (Err fault) rest x e = absurd cc
 
@@ -41,7 +42,7 @@ pub ok_is : {A : Type 0} (x y : A) → ◌≡◌ {A = Result A RunFault} (Ok x) 
 ok_is x y e = cc
 
 -- the case before the rest does not hold
-pub granted_first : {A : Type 0} (c : Result (Unit {0}) RunFault) (rest : Result A RunFault) (x : A) → then c rest ≡ Ok x → c ≡ Ok tt
+pub granted_first : {A : Type 0} (c : Result (Unit {0}) RunFault) (rest : Result A RunFault) (x : A) → result_and c rest ≡ Ok x → c ≡ Ok tt
 granted_first (Ok t) rest x e = refl
 granted_first (Err fault) rest x e = absurd cc
 
@@ -233,7 +234,7 @@ module _ {Num : Type 0} (lent : Lent Num) where
   pub record Ways (world : World Num) (P : Outcome Num → Type 0) : Type 0 where
     pub declines : (fault : RunFault) → P (only_answers lent world (Declines fault))
     pub not_let : P (only_answers lent world NotLet)
-    pub shows : (row : Option (Row Num)) → P (only_answers lent world (Shows row))
+    pub shows : (row : Row Num) → P (only_answers lent world (Shows row))
     pub none_left : P (only_answers lent world (Copied None))
     pub opens : (next : World Num) → world.position ≡ None → opening lent world ≡ Ok next → P (record { answer = Granted; events = open_events world next; world = next })
     pub takes : (position : ℕ) (next : AfterCopy Num) → world.position ≡ Some position → carrying lent world ≡ Ok (Some next) → P (record { answer = Copied (Some next.copy); events = Takes next.copy ∷ []; world = next.world })
@@ -254,7 +255,7 @@ module _ {Num : Type 0} (lent : Lent Num) where
       damaged damage here (Ok next) e = ways.damages damage next here e
       damaged damage here (Err fault) e = ways.declines fault
 
-      shown : (o : Result (Option (Row Num)) RunFault) → P (shows lent world o)
+      shown : (o : Result (Row Num) RunFault) → P (shows lent world o)
       shown (Ok row) = ways.shows row
       shown (Err fault) = ways.declines fault
 

@@ -17,7 +17,7 @@ use Rattle.flood.specs.Instants.{row_opened, row_closed, byte_of, closed, silent
 use Rattle.numbering.specs.Meaning.{Meaning, KeepsLawful}
 use Rattle.history.specs.Calls.{AfterCopy, none_yet, begun, opening, world_opened, rows_opened, damaging, world_damaged, damaged_row, world_closed, next_taken, copy_taken, comes_through}
 use Rattle.history.specs.Checks.{checked_first}
-use Rattle.history.specs.declared.taking.Named.TheVariants.{Nothing}
+use Rattle.vetting.specs.declared.Named.TheVariants.{Nothing}
 use Rattle.history.specs.Histories.{Call, history}
 use Rattle.history.specs.Limits.{stage_of, LinksKeep, InLimits, LimitsAreKept, ChecksStay}
 use Rattle.history.specs.Plays.{copies_taken, instant_gone}
@@ -62,9 +62,9 @@ module _ {Num : Type 0} (field : Field Num) where
   quiet :
       (stage : Stage) (rows : List (Row Num)) (senders : List ℕ) → n ≤ length rows → n ≤ length senders
       → ((sensor : ℕ) (row : Row Num) → sensor < n → slice_get rows sensor ≡ Some row → row_keeps field.numbering field.settings stage sensor row ≡ true)
-      → (instant : ℕ) (counts : Counts)
-      → InLimits field (record { rows = closed n rows; senders = silent n senders; instant = instant; position = None; counts = counts })
-  quiet stage rows senders rows_there bytes_there keep instant counts = record {
+      → (world : World Num)
+      → InLimits field (record world { rows = closed n rows; senders = silent n senders; position = None })
+  quiet stage rows senders rows_there bytes_there keep world = record {
     rows_there = rw (length_changed (λ sensor. row_closed) 0 n rows) rows_there;
     bytes_there = rw (length_changed (λ sensor byte. 0) 0 n senders) bytes_there;
     rows_keep = λ sensor row h e.
@@ -81,9 +81,9 @@ module _ {Num : Type 0} (field : Field Num) where
       (world : World Num) → InLimits field world
       → (place : ℕ) (old row : Row Num) → place < n → slice_get world.rows place ≡ Some old → row.outgoing ≡ old.outgoing
       → (position : Option ℕ) → stage_of world.position ≡ stage_of position → row_keeps field.numbering field.settings (stage_of position) place row ≡ true
-      → (instant : ℕ) (counts : Counts)
-      → InLimits field (record { rows = set world.rows place row; senders = world.senders; instant = instant; position = position; counts = counts })
-  one_set world limits place old row within there same position stage keeps instant counts = record {
+      → (counts : Counts)
+      → InLimits field (record world { rows = set world.rows place row; position = position; counts = counts })
+  one_set world limits place old row within there same position stage keeps counts = record {
     rows_there = rw (length-set world.rows place row) limits.rows_there;
     bytes_there = limits.bytes_there;
     rows_keep = λ sensor r h e. row_keeps_at sensor r h (set_at world.rows place sensor row r e);
@@ -105,7 +105,7 @@ module _ {Num : Type 0} (field : Field Num) where
   begun_in_limits rows senders world e =
       let check = checked_first field rows senders in
       let first = first_gives field rows senders (granted_first check _ world e) in
-      subst (InLimits field) (ok_is _ world (granted_ok check _ world e)) (quiet Beginning rows senders first.rows_there first.bytes_there first.keep 0 none_yet)
+      subst (InLimits field) (ok_is _ world (granted_ok check _ world e)) (quiet Beginning rows senders first.rows_there first.bytes_there first.keep (record { settings = field.settings; count = field.count; rows = rows; senders = senders; instant = 0; position = None; counts = none_yet }))
 
 module _ {Num : Type 0} (lent : Lent Num) where
   abbrev field : Field Num
@@ -114,7 +114,7 @@ module _ {Num : Type 0} (lent : Lent Num) where
   pub closed_in_limits : (world : World Num) → InLimits field world → InLimits field (world_closed lent world)
   unfolding world_closed
   closed_in_limits world limits =
-      quiet field (stage_of world.position) world.rows world.senders limits.rows_there limits.bytes_there limits.rows_keep world.instant world.counts
+      quiet field (stage_of world.position) world.rows world.senders limits.rows_there limits.bytes_there limits.rows_keep world
 
   pub damaged_in_limits : (damage : Damage Num) (world next : World Num) → world.position ≡ None → damaging lent damage world ≡ Ok next → InLimits field world → InLimits field next
   unfolding world_damaged
@@ -123,7 +123,7 @@ module _ {Num : Type 0} (lent : Lent Num) where
       let old = there_is world.rows damage.sensor (omega (arith, gives.1, limits.rows_there)) in
       let none = none_outgoing field old.0.outgoing (row_at field world None here limits damage.sensor old.0 gives.1 old.1).outgoing in
       subst (InLimits field) (sym gives.0)
-      (one_set field world limits damage.sensor old.0 (damaged_row damage) gives.1 old.1 (sym none) None (ap stage_of here) gives.2 world.instant world.counts)
+      (one_set field world limits damage.sensor old.0 (damaged_row damage) gives.1 old.1 (sym none) None (ap stage_of here) gives.2 world.counts)
 
   pub taken_in_limits :
       LinksKeep field → (world : World Num) (position : ℕ) (next : AfterCopy Num) → world.position ≡ Some position → next_taken lent world ≡ Some next
@@ -138,7 +138,7 @@ module _ {Num : Type 0} (lent : Lent Num) where
       let right : message_keeps field.numbering field.settings f.message ≡ true = rw sender.2 at sends in
       let takes = taken_keeps field (comes_through lent world f.link) f.message right f.link.to ends.2 f.row own in
       subst (λ (c : AfterCopy Num). InLimits field c.world) f.taken
-      (one_set field world limits f.link.to f.row _ ends.1 f.comes takes.1 (Some (suc f.place)) (ap stage_of here) (row_from field Within f.link.to _ takes.0) world.instant _)
+      (one_set field world limits f.link.to f.row _ ends.1 f.comes takes.1 (Some (suc f.place)) (ap stage_of here) (row_from field Within f.link.to _ takes.0) _)
 
   module _ (lawful : KeepsLawful field.numbering) (periods : KeepsPeriods lent.period) where
     pub opened_in_limits : (world next : World Num) → world.position ≡ None → opening lent world ≡ Ok next → InLimits field world → InLimits field next

@@ -14,7 +14,7 @@ use Rattle.history.specs.OneByOne.{of_instants, goes_through, OneByOne, PlaysOne
 use Rattle.history.specs.Plays.{Event, Went, open_events, copies_taken, instant_gone, playing}
 use Rattle.history.specs.Plays.Event.{Takes}
 use Rattle.history.specs.Worlds.{Field, Lent, World, told_links}
-use Rattle.history.specs.declared.taking.Named.TheVariants.{Nothing}
+use Rattle.vetting.specs.declared.Named.TheVariants.{Nothing}
 use Rattle.history.proofs.Checks.{check_passes, names_nothing, links_kept}
 use Rattle.history.proofs.Kept.{opening_is, carried_from, onward_from, copied, none_left, tried_done, played, closed_between}
 use Rattle.history.proofs.Limits.{begun_in_limits, history_in_limits, opened_in_limits, taken_in_limits, copies_in_limits, instant_in_limits}

@@ -12,7 +12,7 @@ use Rattle.history.proofs.Checks.{check_gives, damaging_gives}
 use Rattle.history.proofs.Limits.{link_gives}
 use Rattle.flood.specs.Copies.{outgoing_of}
 use Rattle.history.specs.Calls.{AfterCopy, opening, looking, world_opened, world_closed, world_damaged, copy_taken}
-use Rattle.history.specs.declared.taking.Named.TheVariants.{Nothing, Damaged}
+use Rattle.vetting.specs.declared.Named.TheVariants.{Nothing, Damaged}
 use Rattle.history.specs.Counted.{opens}
 use Rattle.history.specs.Histories.{Call, Answer, called, history, shows}
 use Rattle.history.specs.Histories.Call.{Carry, Look}
@@ -182,7 +182,7 @@ module _ {Num : Type 0} (lent : Lent Num) where
   looks : (world : World Num) (sensor : ℕ) → ChangesNothing world (called lent world (Look sensor))
   looks world sensor = called_either lent (ChangesNothing world) world (Look sensor) (λ here. shown (looking lent sensor world)) (λ position here. (refl, refl))
     where
-      shown : (o : Result (Option (Row Num)) RunFault) → ChangesNothing world (shows lent world o)
+      shown : (o : Result (Row Num) RunFault) → ChangesNothing world (shows lent world o)
       shown (Ok row) = (refl, refl)
       shown (Err fault) = (refl, refl)
 
@@ -228,6 +228,22 @@ module _ {Num : Type 0} (lent : Lent Num) where
         subst (PastAsWas before) (sym gives.0) (drop-set-lt n world.rows damage.sensor _ gives.1 ∙ p.0, p.1);
   }
 
+  -- settings and told count stay, whatever is called
+  abbrev HoldsBoth : World Num → World Num → Type 0
+  HoldsBoth before after = (after.settings ≡ before.settings) × (after.count ≡ before.count)
+
+  holds_steps : (before : World Num) → Steps lent (λ (t : Unit {0}) event. t) (λ after t. HoldsBoth before after)
+  unfolding world_opened world_closed world_damaged copy_taken
+  holds_steps before = record {
+    opens = λ world next t p here granted. subst (HoldsBoth before) (opening_is lent world next granted) p;
+    takes = λ world position next t p here some. subst (λ (c : AfterCopy Num). HoldsBoth before c.world) (carried_from lent world position next here some).taken p;
+    closes = λ world position t p here none. p;
+    damages = λ world next damage t p here granted. subst (HoldsBoth before) (sym (damaging_gives lent world next damage granted).0) p;
+  }
+
+  holds_both : (world : World Num) (call : Call Num) → HoldsBoth world (called lent world call).world
+  holds_both world call = called_kept lent (λ t event. t) (λ after t. HoldsBoth world after) (holds_steps world) call world tt (refl, refl)
+
   -- what alters anything has passed a check
   checks_links : (world : World Num) (call : Call Num) → LinksKeep lent.field ⊎ ((called lent world call).world ≡ world)
   checks_links world call = called_by lent world (λ outcome. LinksKeep lent.field ⊎ (outcome.world ≡ world)) call (record {
@@ -266,6 +282,8 @@ module _ {Num : Type 0} (lent : Lent Num) where
     none_left = λ world e. still world Carry (ap moves e);
     none_again = λ world e. ap (λ (w : World Num). called lent w Carry) (still world Carry (ap moves e)).0;
     tells = tells;
+    holds_settings = λ world call. (holds_both world call).0;
+    holds_count = λ world call. (holds_both world call).1;
     past_rows = λ world call. (past_as_was world call).0;
     past_bytes = λ world call. (past_as_was world call).1;
   }

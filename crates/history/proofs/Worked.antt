@@ -3,7 +3,8 @@ use Rattle.std.proofs.Common.{◌≡◌, ℕ, zero, suc, ◌<◌, ◌≤◌, tru
 use Rattle.field.specs.declared.Row.{Row}
 use Rattle.flood.specs.Instants.{changed}
 use Rattle.history.specs.Calls.{world_opened, copy_taken, next_taken, world_closed}
-use Rattle.history.specs.Checks.{sensors_case, links_case, repeats_case, rows_case, first_rows_case, checked, checked_first}
+use Rattle.vetting.specs.Cases.{fault_in}
+use Rattle.history.specs.Checks.{checked, checked_first}
 use Rattle.history.specs.Floods.{Flood, through, without_first, flood_at, verdicts_of, heard_by}
 use Rattle.history.specs.Histories.{called, history}
 use Rattle.history.specs.Plays.{open_events, copies_in, copies_taken, instant_gone, tried, playing}
@@ -15,7 +16,7 @@ use Rattle.search.specs.Lowest.{lowest, looked_for}
 
 -- all that a run computes with
 runs : Unit {0}
-unfolding lowest looked_for changed sensors_case links_case repeats_case rows_case first_rows_case checked checked_first world_opened copy_taken next_taken world_closed open_events copies_in copies_taken instant_gone tried playing called history through without_first flood_at verdicts_of heard_by floods
+unfolding lowest looked_for changed fault_in checked checked_first world_opened copy_taken next_taken world_closed open_events copies_in copies_taken instant_gone tried playing called history through without_first flood_at verdicts_of heard_by floods
 runs = tt
 
 pub worked : Worked

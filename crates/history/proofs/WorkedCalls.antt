@@ -2,7 +2,8 @@
 use Rattle.std.proofs.Common.{refl}
 use Rattle.flood.specs.Instants.{changed}
 use Rattle.history.specs.Calls.{world_opened, copy_taken, next_taken, world_closed, world_damaged}
-use Rattle.history.specs.Checks.{sensors_case, links_case, repeats_case, rows_case, first_rows_case, checked, checked_first}
+use Rattle.vetting.specs.Cases.{fault_in}
+use Rattle.history.specs.Checks.{checked, checked_first}
 use Rattle.history.specs.Floods.{through}
 use Rattle.history.specs.Histories.{called, history}
 use Rattle.history.specs.Plays.{open_events, copies_in, copies_taken, instant_gone, tried, playing}
@@ -10,7 +11,7 @@ use Rattle.history.specs.WorkedCalls.{WorkedCalls}
 use Rattle.search.specs.Lowest.{lowest, looked_for}
 
 pub worked_calls : WorkedCalls
-unfolding lowest looked_for changed sensors_case links_case repeats_case rows_case first_rows_case checked checked_first world_opened copy_taken next_taken world_closed world_damaged open_events copies_in copies_taken instant_gone tried playing called history through
+unfolding lowest looked_for changed fault_in checked checked_first world_opened copy_taken next_taken world_closed world_damaged open_events copies_in copies_taken instant_gone tried playing called history through
 worked_calls = record {
   begins = refl;
   answers = refl;

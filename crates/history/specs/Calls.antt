@@ -1,6 +1,7 @@
 -- What each call of a run makes of where it stands. Assumes nothing.
 use Rattle.std.specs.Prelude.{ℕ, suc, ◌+◌, Bool, false, cond, not, List, take, set, is_some, Some, None, Ok, Option, Result, ◌==◌, slice_get}
-use Rattle.checking.specs.Cases.{then}
+use Rattle.std.specs.Option.{ok_or}
+use Rattle.std.specs.Result.{result_and}
 use Rattle.field.specs.declared.Damage.{Damage}
 use Rattle.field.specs.declared.Link.{Link}
 use Rattle.field.specs.declared.Message.{Message}
@@ -12,9 +13,10 @@ use Rattle.flood.specs.Sensors.{base_opened, taken}
 use Rattle.flood.specs.declared.hearing.Verdict.{Verdict}
 use Rattle.flood.specs.declared.hearing.Verdict.TheVariants.{Lost, Refused, Accepted, Forwards}
 use Rattle.refusal.specs.declared.RunFault.{RunFault}
-use Rattle.refusal.specs.declared.RunFault.TheVariants.{LastInstant, NoNumber, CopyLeft}
-use Rattle.history.specs.Checks.{checked, checked_first, declines_where}
-use Rattle.history.specs.declared.taking.Named.TheVariants.{Nothing, Sensor, Damaged}
+use Rattle.refusal.specs.declared.RunFault.TheVariants.{ShortBuffer, LastInstant, NoNumber, CopyLeft}
+use Rattle.vetting.specs.Cases.{declines_where}
+use Rattle.vetting.specs.declared.Named.TheVariants.{Nothing, Sensor, Damaged}
+use Rattle.history.specs.Checks.{checked, checked_first}
 use Rattle.history.specs.Worlds.{Field, Lent, World, told_links}
 use Rattle.history.specs.declared.taking.Counts.{Counts}
 use Rattle.history.specs.declared.taking.TakenCopy.{TakenCopy}
@@ -42,8 +44,16 @@ module _ {Num : Type 0} where
   -- A run as it begins: no message is outgoing, no byte sends, and instant 1 is to come.
   abbrev pub begun : Field Num → List (Row Num) → List ℕ → Result (World Num) RunFault
   begun field rows senders =
-      then (checked_first field rows senders)
-      (Ok (record { rows = closed field.settings.n rows; senders = silent field.settings.n senders; instant = 0; position = None; counts = none_yet }))
+      result_and (checked_first field rows senders)
+      (Ok (record {
+        settings = field.settings;
+        count = field.count;
+        rows = closed field.settings.n rows;
+        senders = silent field.settings.n senders;
+        instant = 0;
+        position = None;
+        counts = none_yet;
+      }))
 
   -- a sensor's row overwritten
   abbrev pub damaged_row : Damage Num → Row Num
@@ -63,7 +73,7 @@ module _ {Num : Type 0} (lent : Lent Num) where
 
   -- the next instant, open, at the first link
   unfoldable pub world_opened : World Num → World Num
-  world_opened world = record {
+  world_opened world = record world {
     rows = rows_opened world;
     senders = sending (rows_opened world) lent.field.settings.n world.senders;
     instant = suc world.instant;
@@ -73,14 +83,14 @@ module _ {Num : Type 0} (lent : Lent Num) where
 
   -- 12, then 13
   abbrev pub can_open : World Num → Result (Unit {0}) RunFault
-  can_open world = then (declines_where (world.instant == 4294967295) LastInstant) (declines_where (no_number world) NoNumber)
+  can_open world = result_and (declines_where (world.instant == 4294967295) LastInstant) (declines_where (no_number world) NoNumber)
 
   -- Open: 12 and 13 after the check.
   abbrev pub may_open : World Num → Result (Unit {0}) RunFault
-  may_open world = then (checked lent.field Nothing Between world.rows world.senders) (can_open world)
+  may_open world = result_and (checked lent.field Nothing Between world.rows world.senders) (can_open world)
 
   abbrev pub opening : World Num → Result (World Num) RunFault
-  opening world = then (may_open world) (Ok (world_opened world))
+  opening world = result_and (may_open world) (Ok (world_opened world))
 
   -- does the air carry a copy over this link?
   abbrev pub comes_through : World Num → Link → Bool
@@ -115,7 +125,7 @@ module _ {Num : Type 0} (lent : Lent Num) where
 
   -- Carry: the next copy after the check. That none is left alters nothing.
   abbrev pub carrying : World Num → Result (Option (AfterCopy Num)) RunFault
-  carrying world = then (checked lent.field Nothing Within world.rows world.senders) (Ok (next_taken world))
+  carrying world = result_and (checked lent.field Nothing Within world.rows world.senders) (Ok (next_taken world))
 
   -- an instant that is closed
   unfoldable pub world_closed : World Num → World Num
@@ -123,15 +133,19 @@ module _ {Num : Type 0} (lent : Lent Num) where
 
   -- Close: 14 after the check.
   abbrev pub may_close : World Num → Result (Unit {0}) RunFault
-  may_close world = then (checked lent.field Nothing Within world.rows world.senders) (declines_where (is_some (next_taken world)) CopyLeft)
+  may_close world = result_and (checked lent.field Nothing Within world.rows world.senders) (declines_where (is_some (next_taken world)) CopyLeft)
 
   abbrev pub closing : World Num → Result (World Num) RunFault
-  closing world = then (may_close world) (Ok (world_closed world))
+  closing world = result_and (may_close world) (Ok (world_closed world))
 
   -- Damage, between instants.
   abbrev pub damaging : Damage Num → World Num → Result (World Num) RunFault
-  damaging damage world = then (checked lent.field (Damaged damage) Between world.rows world.senders) (Ok (world_damaged damage world))
+  damaging damage world = result_and (checked lent.field (Damaged damage) Between world.rows world.senders) (Ok (world_damaged damage world))
 
   -- Look, between instants: the row, and nothing changes.
-  abbrev pub looking : ℕ → World Num → Result (Option (Row Num)) RunFault
-  looking sensor world = then (checked lent.field (Sensor sensor) Between world.rows world.senders) (Ok (slice_get world.rows sensor))
+  abbrev pub looking : ℕ → World Num → Result (Row Num) RunFault
+  looking sensor world = result_and (checked lent.field (Sensor sensor) Between world.rows world.senders) (ok_or (slice_get world.rows sensor) ShortBuffer)
+
+  -- Finish, between instants: what has been counted since the run began.
+  abbrev pub finishing : World Num → Result Counts RunFault
+  finishing world = result_and (checked lent.field Nothing Between world.rows world.senders) (Ok world.counts)

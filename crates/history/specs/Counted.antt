@@ -1,7 +1,8 @@
 -- What a run has counted, by what has happened in it. Assumes nothing.
-use Rattle.std.specs.Prelude.{◌≡◌, ℕ, ◌+◌, Bool, true, false, not, List, count_by}
+use Rattle.std.specs.Prelude.{◌≡◌, ℕ, ◌+◌, Bool, true, false, not, List, Ok, count_by}
 use Rattle.field.specs.declared.Row.{Row}
 use Rattle.flood.specs.declared.hearing.Verdict.{Verdict}
+use Rattle.history.specs.Calls.{finishing}
 use Rattle.history.specs.Floods.{hears, accepts, refuses}
 use Rattle.history.specs.Histories.{InEveryRun}
 use Rattle.history.specs.Plays.{Event}
@@ -41,6 +42,8 @@ module _ {Num : Type 0} where
     pub accepted : counts.accepted ≡ count_by (takes accepts) events
     pub each_once : counts.copies ≡ counts.lost + counts.refused + counts.accepted
 
--- In every run its counts are those of what has happened in it.
+-- In every run its counts are those of what has happened in it, and so are those that finish answers.
 unfoldable pub CountsTell : {Num : Type 0} → Field Num → List (Row Num) → List ℕ → Type 0
-CountsTell field rows senders = InEveryRun field rows senders (λ lent went. Counted went.world.counts went.events)
+CountsTell field rows senders =
+    InEveryRun field rows senders (λ lent went.
+    Counted went.world.counts went.events × ((counts : Counts) → finishing lent went.world ≡ Ok counts → Counted counts went.events))

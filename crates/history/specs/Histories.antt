@@ -26,7 +26,7 @@ pub data Answer (Num : Type 0) : Type 0 where
   Granted : Answer Num
   -- the copy that was taken, or none is left
   Copied : Option (TakenCopy Num) → Answer Num
-  Shows : Option (Row Num) → Answer Num
+  Shows : Row Num → Answer Num
   -- play's instants, the rows it logged, and why it ended
   Plays : ℕ → List (TakenCopy Num) → Ending → Answer Num
   Declines : RunFault → Answer Num
@@ -54,7 +54,7 @@ module _ {Num : Type 0} (lent : Lent Num) (world : World Num) where
   takes_on (Ok (Some next)) = record { answer = Copied (Some next.copy); events = Takes next.copy ∷ []; world = next.world }
   takes_on (Err fault) = only_answers (Declines fault)
 
-  abbrev pub shows : Result (Option (Row Num)) RunFault → Outcome Num
+  abbrev pub shows : Result (Row Num) RunFault → Outcome Num
   shows (Ok row) = only_answers (Shows row)
   shows (Err fault) = only_answers (Declines fault)
 

@@ -1,5 +1,5 @@
 -- A run within its limits. Assumes nothing.
-use Rattle.std.specs.Prelude.{◌≡◌, ℕ, ◌<◌, ◌≤◌, true, false, List, length, Some, None, Ok, Option, slice_get}
+use Rattle.std.specs.Prelude.{◌≡◌, ℕ, ◌<◌, ◌≤◌, true, false, List, [], length, Some, None, Ok, Option, slice_get}
 use Rattle.field.specs.declared.Link.{Link}
 use Rattle.field.specs.declared.Row.{Row}
 use Rattle.field.specs.declared.Stage.{Stage}
@@ -7,9 +7,10 @@ use Rattle.field.specs.declared.Stage.TheVariants.{Between, Within}
 use Rattle.field.specs.Rows.{ends_within, link_keeps, row_keeps}
 use Rattle.flood.specs.Instants.{byte_of}
 use Rattle.history.specs.Calls.{AfterCopy, opening, next_taken}
-use Rattle.history.specs.Checks.{bad_damage, checked, names_none}
-use Rattle.history.specs.declared.taking.Named.{Named}
-use Rattle.history.specs.declared.taking.Named.TheVariants.{Nothing}
+use Rattle.vetting.specs.Cases.{bad_damage, names_none}
+use Rattle.vetting.specs.declared.Named.{Named}
+use Rattle.vetting.specs.declared.Named.TheVariants.{Nothing}
+use Rattle.history.specs.Checks.{checked, seen_at}
 use Rattle.history.specs.Histories.{InEveryRun}
 use Rattle.history.specs.Plays.{instant_gone}
 use Rattle.history.specs.Worlds.{Field, Lent, World, told_links}
@@ -37,7 +38,7 @@ module _ {Num : Type 0} (field : Field Num) where
 
 -- A call that names a sensor names one that there is, and one that damages it leaves its row within its limits.
 abbrev pub Fits : {Num : Type 0} → Field Num → Named Num → Type 0
-Fits field named = (k : ℕ) → (names_none field named k ≡ false) × (bad_damage field named k ≡ false)
+Fits field named = let seen = seen_at field named Between [] [] in (k : ℕ) → (names_none seen k ≡ false) × (bad_damage seen named k ≡ false)
 
 -- In every run rows and bytes keep their limits, so that each call that fits passes its check, whatever came before; and an instant
 -- that opens ends with every row within its limits.

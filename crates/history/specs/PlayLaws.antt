@@ -79,6 +79,9 @@ module _ {Num : Type 0} (lent : Lent Num) where
     pub none_again : (world : World Num) → (called lent world Carry).answer ≡ Copied None → called lent (called lent world Carry).world Carry ≡ called lent world Carry
     -- the copies that happened are those that were told, in their order
     pub tells : (calls : List (Call Num)) (world : World Num) → copies_told (history lent calls world).answers ≡ copies_in (history lent calls world).events
+    -- a run holds the settings and the told count that begin was given
+    pub holds_settings : (world : World Num) (call : Call Num) → (called lent world call).world.settings ≡ world.settings
+    pub holds_count : (world : World Num) (call : Call Num) → (called lent world call).world.count ≡ world.count
     -- rows and sender bytes past n stay as they were
     pub past_rows : (world : World Num) (call : Call Num) → drop lent.field.settings.n (called lent world call).world.rows ≡ drop lent.field.settings.n world.rows
     pub past_bytes : (world : World Num) (call : Call Num) → drop lent.field.settings.n (called lent world call).world.senders ≡ drop lent.field.settings.n world.senders

@@ -65,22 +65,30 @@ rows = row_of 1 0 ∷ row_of 2 1 ∷ row_of 1 0 ∷ []
 abbrev pub senders : List ℕ
 senders = 0 ∷ 0 ∷ 0 ∷ []
 
--- between instants, with nothing counted
-abbrev pub between : List (Row ℕ) → List ℕ → ℕ → World ℕ
-between rows senders instant = record { rows = rows; senders = senders; instant = instant; position = None; counts = none_yet }
+-- between instants, with so many links told, and nothing counted
+abbrev pub between : ℕ → List (Row ℕ) → List ℕ → ℕ → World ℕ
+between count rows senders instant = record {
+  settings = settings;
+  count = count;
+  rows = rows;
+  senders = senders;
+  instant = instant;
+  position = None;
+  counts = none_yet;
+}
 
-abbrev pub first : World ℕ
-first = between rows senders 0
+abbrev pub first : ℕ → World ℕ
+first count = between count rows senders 0
 
 abbrev pub copy_of : ℕ → ℕ → ℕ → ℕ → ℕ → Verdict → TakenCopy ℕ
 copy_of instant from to hop number verdict = record { instant = instant; from = from; to = to; hop = hop; number = number; verdict = verdict }
 
 pub record Worked : Type 0 where
-  pub begins : begun (lent links).field rows senders ≡ Ok first
+  pub begins : begun (lent links).field rows senders ≡ Ok (first 3)
   -- three copies in the first 8 instants
-  pub logs : copies_in (playing (lent links) 8 3 first).events ≡ copy_of 1 0 1 2 1 Refused ∷ copy_of 6 0 1 2 2 Forwards ∷ copy_of 8 1 2 1 2 Accepted ∷ []
-  pub plays : (playing (lent links) 8 3 first).instants ≡ 8
-  pub ends : (playing (lent links) 8 3 first).ending ≡ BudgetSpent
+  pub logs : copies_in (playing (lent links) 8 3 (first 3)).events ≡ copy_of 1 0 1 2 1 Refused ∷ copy_of 6 0 1 2 2 Forwards ∷ copy_of 8 1 2 1 2 Accepted ∷ []
+  pub plays : (playing (lent links) 8 3 (first 3)).instants ≡ 8
+  pub ends : (playing (lent links) 8 3 (first 3)).ending ≡ BudgetSpent
 
 -- What is asked of a sensor and a flood at a place before floods are said to settle there, with patience G and catch-up count C,
 -- and the verdicts on the copies that it heard of that flood.
@@ -100,12 +108,12 @@ abbrev pub more_links : List Link
 more_links = link_of 0 2 ∷ links
 
 unfoldable pub floods : List (Flood ℕ)
-floods = without_first (floods_told (history (lent more_links) (Play 21 100 ∷ []) first).events)
+floods = without_first (floods_told (history (lent more_links) (Play 21 100 ∷ []) (first 4)).events)
 
 -- That floods settle is not said of nothing: 21 instants have four floods after the first, which is C = 2 and two more, and
 -- sensor 1, which is asked all that is asked, accepts a copy and refuses another.
 pub record NotVacuous : Type 0 where
-  pub begins : begun (lent more_links).field rows senders ≡ Ok first
+  pub begins : begun (lent more_links).field rows senders ≡ Ok (first 4)
   pub periods_keep : KeepsPeriods slowest_period
   pub numbers : map (λ flood. flood.number) floods ≡ 2 ∷ 1 ∷ 0 ∷ 2 ∷ []
   -- at the end of the first C, and in the flood after

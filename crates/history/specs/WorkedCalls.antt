@@ -46,7 +46,7 @@ abbrev pub silent_bytes : List ℕ
 silent_bytes = 0 ∷ 0 ∷ 0 ∷ 7 ∷ []
 
 abbrev pub start : World ℕ
-start = between (and_past_n (row_of 1 0) (row_of 1 1) (row_of 2 0)) silent_bytes 0
+start = between 4 (and_past_n (row_of 1 0) (row_of 1 1) (row_of 2 0)) silent_bytes 0
 
 -- a call with its answer
 pub record Given : Type 0 where
@@ -60,7 +60,7 @@ call gives answer = record { call = call; answer = answer }
 -- an instant call by call, a damage while its flood goes on, and the floods after it
 abbrev pub given : List Given
 given =
-    Look 1 gives Shows (Some (row_of 1 1))
+    Look 1 gives Shows (row_of 1 1)
     -- a row is there, and no such sensor
     ∷ Look 4 gives Declines (Field (NoSensor 4))
     -- no such call between instants
@@ -80,7 +80,7 @@ given =
     ∷ Carry gives Copied None
     ∷ Close gives Granted
     ∷ damage_of 1 2 (Some 1) 0 gives Granted
-    ∷ Look 1 gives Shows (Some (record (row_of 2 0) { mark = Some 1 }))
+    ∷ Look 1 gives Shows (record (row_of 2 0) { mark = Some 1 })
     -- Instant 6 has two copies, and one row is left; then the rows are just enough.
     ∷ Play 8 3 gives Plays 4 (copy_of 2 2 1 1 1 Accepted ∷ copy_of 3 1 2 1 1 Refused ∷ []) LogShort
     ∷ Play 4 3 gives Plays 4 (copy_of 6 0 1 2 2 Lost ∷ copy_of 6 0 2 2 2 Forwards ∷ copy_of 7 2 1 1 2 Accepted ∷ []) BudgetSpent
@@ -99,7 +99,7 @@ answer lent world call = (called lent world call).answer
 abbrev pub BothDecline : List Link → ℕ → List (Row ℕ) → List ℕ → RunFault → Type 0
 BothDecline links count rows senders fault =
     let lent = lent_with (differentiated 2) links count in
-    (begun lent.field rows senders ≡ Err fault) × (answer lent (between rows senders 0) Open ≡ Declines fault)
+    (begun lent.field rows senders ≡ Err fault) × (answer lent (between count rows senders 0) Open ≡ Declines fault)
 
 -- two links that break 7, by a label of 101 and as they enter the base
 abbrev pub above_100 : Link
@@ -117,7 +117,7 @@ bad_rows = row_of 6 0 ∷ row_of 2 1 ∷ row_of 3 0 ∷ []
 
 -- linear at the last number, with the base's timer, and so many instants opened; sensor 1 is to send in the second instant from there
 abbrev pub at_last_number : ℕ → ℕ → Call ℕ → Answer ℕ
-at_last_number timer instant = answer (lent_with linear links 3) (between (row_of timer 4294967295 ∷ record (row_of 2 1) { mark = Some 1 } ∷ row_of 2 1 ∷ []) senders instant)
+at_last_number timer instant = answer (lent_with linear links 3) (between 3 (row_of timer 4294967295 ∷ record (row_of 2 1) { mark = Some 1 } ∷ row_of 2 1 ∷ []) senders instant)
 
 pub record WorkedCalls : Type 0 where
   -- Begin looks at no byte and no outgoing message, and clears those of the first n alone.
@@ -126,6 +126,8 @@ pub record WorkedCalls : Type 0 where
   pub answers : gone.answers ≡ map (λ g. g.answer) given
   -- What lies past n is as it was, whatever was opened and closed. The flood before the damage is counted, and so are its copies.
   pub stands : gone.world ≡ record {
+    settings = settings;
+    count = 4;
     rows = and_past_n (row_of 5 0) (record (row_of 1 0) { mark = Some 1 }) (record (row_of 2 0) { mark = Some 1 });
     senders = silent_bytes;
     instant = 11;
@@ -141,7 +143,7 @@ pub record WorkedCalls : Type 0 where
   pub no_sensor : BothDecline (above_100 ∷ link_of 1 3 ∷ []) 2 rows senders (Field (NoSensor 1))
   pub bad_link : BothDecline (link_of 0 1 ∷ into_base ∷ []) 2 bad_rows senders (Field (BadLink 1))
   -- A link that repeats an earlier one is 7 as a run begins, before 8, and nothing to open.
-  pub repeats : (begun (lent_with (differentiated 2) twice 1025).field rows senders ≡ Err (Field (BadLink 1))) × (answer (lent twice) first Open ≡ Granted)
+  pub repeats : (begun (lent_with (differentiated 2) twice 1025).field rows senders ≡ Err (Field (BadLink 1))) × (answer (lent twice) (first 2) Open ≡ Granted)
   -- 8 is 1,025 links and not 1,024; 8 before 9, and 9 before 11, where fewer rows and links are there.
   pub too_many : begun (lent_with (differentiated 2) links 1025).field bad_rows senders ≡ Err (Field (TooMany 1024))
   pub bad_row : BothDecline links 1024 (row_of 1 0 ∷ row_of 3 1 ∷ []) senders (Field (BadRow 1))
@@ -152,20 +154,20 @@ pub record WorkedCalls : Type 0 where
       × BothDecline links 3 rows (0 ∷ 0 ∷ []) ShortBuffer
   -- A byte that is there is 1 with an outgoing message, and else 0.
   pub bad_byte :
-      (answer (lent links) (between rows (0 ∷ 1 ∷ []) 0) Open ≡ Declines (Field (BadRow 1)))
-      × (answer (lent links) (record first { rows = record (row_of 5 1) { outgoing = message_of 2 1 } ∷ rows; position = Some 0 }) Carry ≡ Declines (Field (BadRow 0)))
+      (answer (lent links) (between 3 rows (0 ∷ 1 ∷ []) 0) Open ≡ Declines (Field (BadRow 1)))
+      × (answer (lent links) (record (first 3) { rows = record (row_of 5 1) { outgoing = message_of 2 1 } ∷ rows; position = Some 0 }) Carry ≡ Declines (Field (BadRow 0)))
   -- Of the place that a call names and another, the lower is told, whichever it is.
-  pub link_lower : answer (lent (link_of 0 1 ∷ link_of 1 3 ∷ [])) first (damage_of 5 1 None 0) ≡ Declines (Field (NoSensor 1))
-  pub sensor_lower : answer (lent (link_of 0 1 ∷ link_of 0 2 ∷ link_of 1 2 ∷ link_of 2 1 ∷ link_of 7 1 ∷ [])) first (Look 3) ≡ Declines (Field (NoSensor 3))
-  pub row_lower : answer (lent links) (between bad_rows senders 0) (damage_of 1 3 None 0) ≡ Declines (Field (BadRow 0))
-  pub damage_lower : answer (lent links) (between (row_of 1 0 ∷ row_of 2 1 ∷ row_of 3 0 ∷ []) senders 0) (damage_of 1 3 None 0) ≡ Declines (Field (BadRow 1))
+  pub link_lower : answer (lent (link_of 0 1 ∷ link_of 1 3 ∷ [])) (first 2) (damage_of 5 1 None 0) ≡ Declines (Field (NoSensor 1))
+  pub sensor_lower : answer (lent (link_of 0 1 ∷ link_of 0 2 ∷ link_of 1 2 ∷ link_of 2 1 ∷ link_of 7 1 ∷ [])) (first 5) (Look 3) ≡ Declines (Field (NoSensor 3))
+  pub row_lower : answer (lent links) (between 3 bad_rows senders 0) (damage_of 1 3 None 0) ≡ Declines (Field (BadRow 0))
+  pub damage_lower : answer (lent links) (between 3 (row_of 1 0 ∷ row_of 2 1 ∷ row_of 3 0 ∷ []) senders 0) (damage_of 1 3 None 0) ≡ Declines (Field (BadRow 1))
   -- Look looks for all that other calls do: here at a row that sends between instants.
-  pub look_checks : answer (lent links) (between (record (row_of 1 0) { outgoing = message_of 2 1 } ∷ row_of 2 1 ∷ row_of 1 0 ∷ []) (1 ∷ 0 ∷ 0 ∷ []) 0) (Look 1) ≡ Declines (Field (BadRow 0))
+  pub look_checks : answer (lent links) (between 3 (record (row_of 1 0) { outgoing = message_of 2 1 } ∷ row_of 2 1 ∷ row_of 1 0 ∷ []) (1 ∷ 0 ∷ 0 ∷ []) 0) (Look 1) ≡ Declines (Field (BadRow 0))
   -- 12 where instant 4,294,967,295 has been opened, not the one before, and before 13
   pub last_instant : at_last_number 1 4294967295 Open ≡ Declines LastInstant
   pub no_number : at_last_number 1 4294967294 Open ≡ Declines NoNumber
   -- The first instant has no copies, and needs no number; the second would have one, but is refused.
   pub no_room : at_last_number 2 0 (Play 3 0) ≡ Plays 1 [] (Ends NoNumber)
   -- At a budget of 0 nothing is looked at.
-  pub no_budget : answer (lent links) (between bad_rows senders 0) (Play 0 0) ≡ Plays 0 [] BudgetSpent
-  pub budget : answer (lent links) (between bad_rows senders 0) (Play 1 0) ≡ Plays 0 [] (Ends (Field (BadRow 0)))
+  pub no_budget : answer (lent links) (between 3 bad_rows senders 0) (Play 0 0) ≡ Plays 0 [] BudgetSpent
+  pub budget : answer (lent links) (between 3 bad_rows senders 0) (Play 1 0) ≡ Plays 0 [] (Ends (Field (BadRow 0)))

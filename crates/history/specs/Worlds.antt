@@ -31,9 +31,11 @@ pub record Lent (Num : Type 0) : Type 0 where
   pub period : ℕ → ℕ → ℕ → ℕ
   pub carries : Carrying
 
--- Where a run stands: the rows and sender bytes that are lent, the instants that have been opened, the position in the links
--- while an instant is open, and what has been counted.
+-- Where a run stands: the settings and the told count that begin was given, the rows and sender bytes that are lent, the instants
+-- that have been opened, the position in the links while an instant is open, and what has been counted.
 pub record World (Num : Type 0) : Type 0 where
+  pub settings : Settings
+  pub count : ℕ
   pub rows : List (Row Num)
   pub senders : List ℕ
   pub instant : ℕ

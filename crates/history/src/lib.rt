@@ -5,4 +5,4 @@ mod laws;
 mod taking;
 
 pub use laws::{floods_settle, runs_keep_laws, worked_field};
-pub use taking::{Counts, Ending, Named, TakenCopy};
+pub use taking::{Counts, Ending, TakenCopy};

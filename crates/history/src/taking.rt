@@ -1,16 +1,7 @@
-// What the calls of a run name and tell.
+// What the calls of a run tell.
 
-use field::Damage;
 use flood::Verdict;
 use refusal::RunFault;
-
-// What a call names beside what it is lent: a sensor that is to be shown, or a damage.
-#[derive(Clone, Copy, PartialEq, Eq, Debug)]
-pub enum Named<Number> {
-    Nothing,
-    Sensor(u8),
-    Damaged(Damage<Number>),
-}
 
 // A copy, as it is taken: a row of the log.
 #[derive(Clone, Copy, PartialEq, Eq, Debug)]

@@ -1,1 +1,2 @@
 pub mod Vets
+mod Orders

@@ -1,10 +1,11 @@
 -- What is known of a field, and of acts, that are vetted. Assumes nothing.
 use Rattle.std.proofs.Common.{◌≡◌, ℕ, ◌<◌, ◌≤◌, Bool, true, false, cond, not, ◌||◌, ltb, List, length, Some, Ok, Err, Result, is_ok, Option, None, refl, ap, arith}
 use Rattle.std.specs.List.{slice_get}
+use Rattle.std.specs.Result.{result_and}
 use Rattle.std.proofs.lemmas.Bool.{not-false, or_parts, ltb-false}
 use Rattle.std.proofs.lemmas.Option.{slice_get_within}
 use Rattle.refusal.specs.Carried.{in_field}
-use Rattle.search.proofs.Places.{nowhere, found_at, found_nowhere}
+use Rattle.search.proofs.Places.{nowhere, none_found, found_at, found_nowhere}
 use Rattle.numbering.specs.Meaning.{Meaning}
 use Rattle.field.specs.declared.Act.{Act}
 use Rattle.field.specs.declared.Link.{Link}
@@ -13,14 +14,14 @@ use Rattle.field.specs.declared.Row.{Row}
 use Rattle.field.specs.declared.Settings.{Settings}
 use Rattle.field.specs.declared.Stage.TheVariants.{Between}
 use Rattle.field.specs.Rows.{row_keeps, ends_within, link_keeps, joins}
-use Rattle.checking.specs.Cases.{then}
-use Rattle.checking.proofs.Passes.{false_true, then_first, then_second, in_field_passes}
+use Rattle.checking.proofs.Passes.{false_true, first_passes, second_passes, in_field_passes}
 use Rattle.vetting.specs.declared.cases.ActCase.{ActCase}
-use Rattle.vetting.specs.declared.cases.ActCase.TheVariants.{Sensors, Limits}
-use Rattle.vetting.specs.declared.cases.DraftCase.{DraftCase}
-use Rattle.vetting.specs.declared.cases.DraftCase.TheVariants.{Ends, Links, Count, Rows, Losses}
+use Rattle.vetting.specs.declared.cases.ActCase.TheVariants.{Sensors as Named, Limits}
+use Rattle.vetting.specs.declared.cases.MemoryCase.{MemoryCase}
+use Rattle.vetting.specs.declared.cases.MemoryCase.TheVariants.{Sensors, Links, Count, Rows, Losses}
+use Rattle.vetting.specs.Cases.{Seen, case_at, case_fault, case_places, fault_in, first_fault, holds_at, linked}
 use Rattle.vetting.specs.Acts.{damages_none, breaks_limits, act_test, act_fault, act_case, acts_vetted}
-use Rattle.vetting.specs.Vetted.{holds_at, linked, draft_places, draft_at, draft_fault, draft_case, drafts_vetted, vetted}
+use Rattle.vetting.specs.Vetted.{drafted, of_drafts, vetted}
 
 -- a test that does not hold at a place does not hold of the item there
 pub not_of : {A : Type 0} (test : A → Bool) (items : List A) (k : ℕ) (x : A) → slice_get items k ≡ Some x → holds_at test items k ≡ false → test x ≡ false
@@ -39,6 +40,15 @@ pub enough : {Fault : Type 0} (b : Bool) (fault : Fault) → is_ok {T = Unit {0}
 enough true fault e = false_true e
 enough false fault e = refl
 
+-- a case that passes holds at none of its places, and one that holds nowhere passes
+pub case_nowhere : {Num : Type 0} (seen : Seen Num) (case : MemoryCase) → is_ok (fault_in seen case) ≡ true → (k : ℕ) → k < case_places seen case → case_at seen case k ≡ false
+unfolding fault_in
+case_nowhere seen case = nowhere (case_fault case) (case_places seen case) (case_at seen case)
+
+pub case_passes : {Num : Type 0} (seen : Seen Num) (case : MemoryCase) → ((k : ℕ) → k < case_places seen case → case_at seen case k ≡ false) → fault_in seen case ≡ Ok tt
+unfolding fault_in
+case_passes seen case = none_found (case_fault case) (case_places seen case) (case_at seen case)
+
 module _ {Num : Type 0} (m : Meaning Num) (s : Settings) where
   module _ (rows : List (Row Num)) (links : List Link) (losses : List Loss) where
     pub record Vets : Type 0 where
@@ -51,32 +61,31 @@ module _ {Num : Type 0} (m : Meaning Num) (s : Settings) where
       pub rows_right : (i : ℕ) (x : Row Num) → i < s.n → slice_get rows i ≡ Some x → row_keeps m s Between i x ≡ true
       pub losses_right : (i : ℕ) (x : Loss) → slice_get losses i ≡ Some x → linked links (length links) x.from x.to ≡ true
 
-    draft_nowhere : (case : DraftCase) → is_ok (draft_case m s rows links losses case) ≡ true → (k : ℕ) → k < draft_places m s rows links losses case → draft_at m s rows links losses case k ≡ false
-    unfolding draft_case
-    draft_nowhere case = nowhere (draft_fault case) (draft_places m s rows links losses case) (draft_at m s rows links losses case)
-
     pub is_vetted : vetted m s rows links losses ≡ Ok tt → Vets
     is_vetted e =
-        let case = draft_case m s rows links losses in
+        let seen = drafted m s rows links losses in
+        let case = fault_in seen in
+        let first = in_field (first_fault seen of_drafts) in
         let ok = ap is_ok e in
-        let room = enough (ltb (length rows) s.n) _ (then_second (in_field (drafts_vetted m s rows links losses)) _ ok) in
-        let all = in_field_passes (drafts_vetted m s rows links losses) (then_first (in_field (drafts_vetted m s rows links losses)) _ ok) in
-        let after_ends = then_second (case Ends) _ all in
-        let after_links = then_second (case Links) _ after_ends in
-        let after_count = then_second (case Count) _ after_links in
-        let ends = draft_nowhere Ends (then_first (case Ends) _ all) in
-        let right = draft_nowhere Links (then_first (case Links) _ after_ends) in
-        let few = draft_nowhere Count (then_first (case Count) _ after_links) in
-        let kept = draft_nowhere Rows (then_first (case Rows) _ after_count) in
-        let joined = draft_nowhere Losses (then_second (case Rows) _ after_count) in
+        let room = enough (ltb (length rows) s.n) _ (second_passes first _ ok) in
+        let all = in_field_passes (first_fault seen of_drafts) (first_passes first _ ok) in
+        let after_ends = second_passes (case Sensors) _ all in
+        let after_links = second_passes (case (Links true)) _ after_ends in
+        let after_count = second_passes (case Count) _ after_links in
+        let after_rows = second_passes (case Rows) _ after_count in
+        let ends = case_nowhere seen Sensors (first_passes (case Sensors) _ all) in
+        let right = case_nowhere seen (Links true) (first_passes (case (Links true)) _ after_ends) in
+        let few = case_nowhere seen Count (first_passes (case Count) _ after_links) in
+        let kept = case_nowhere seen Rows (first_passes (case Rows) _ after_count) in
+        let joined = case_nowhere seen Losses (first_passes (case Losses) _ after_rows) in
         record {
           many = ltb-false (length rows) s.n room;
           link_ends = λ i x there. let h = slice_get_within links i x there in not-false _ (not_of (λ (link : Link). not (ends_within s.n link.from link.to)) links i x there ((or_parts _ _ (ends i (omega arith))).0));
-          loss_ends = λ i x there. let h = slice_get_within losses i x there in not-false _ (not_of (λ (loss : Loss). not (ends_within s.n loss.from loss.to)) losses i x there ((or_parts _ _ (ends i (omega arith))).1));
+          loss_ends = λ i x there. let h = slice_get_within losses i x there in not-false _ (not_of (λ (loss : Loss). not (ends_within s.n loss.from loss.to)) losses i x there (or_parts _ _ (or_parts _ _ (ends i (omega arith))).1).0);
           links_right = λ i x there. or_parts _ _ (not_of (λ (link : Link). not (link_keeps link) || linked links i link.from link.to) links i x there (right i (slice_get_within links i x there)));
           few_links = ltb-false 1024 (length links) ((or_parts _ _ (few 1024 (omega arith))).0);
           few_losses = ltb-false 256 (length losses) (few 256 (omega arith));
-          rows_right = λ i x h there. not-false _ (not_of (λ (row : Row Num). not (row_keeps m s Between i row)) rows i x there (kept i h));
+          rows_right = λ i x h there. not-false _ (not_of (λ (row : Row Num). not (row_keeps m s Between i row)) rows i x there (or_parts _ _ (kept i h)).0);
           losses_right = λ i x there. not-false _ (not_of (λ (loss : Loss). not (linked links (length links) loss.from loss.to)) losses i x there (joined i (slice_get_within losses i x there)));
         }
 
@@ -88,9 +97,9 @@ module _ {Num : Type 0} (m : Meaning Num) (s : Settings) where
     pub acts_are_vetted : acts_vetted m s acts ≡ Ok tt → (i : ℕ) (x : Act Num) → slice_get acts i ≡ Some x → (damages_none s x ≡ false) × (breaks_limits m s x ≡ false)
     acts_are_vetted e i x there =
         let h = slice_get_within acts i x there in
-        let both = then (act_case m s acts Sensors) (act_case m s acts Limits) in
+        let both = result_and (act_case m s acts Named) (act_case m s acts Limits) in
         let ok = in_field_passes both (ap is_ok e) in
-        (not_of (damages_none s) acts i x there (act_nowhere Sensors (then_first (act_case m s acts Sensors) _ ok) i h), not_of (breaks_limits m s) acts i x there (act_nowhere Limits (then_second (act_case m s acts Sensors) _ ok) i h))
+        (not_of (damages_none s) acts i x there (act_nowhere Named (first_passes (act_case m s acts Named) _ ok) i h), not_of (breaks_limits m s) acts i x there (act_nowhere Limits (second_passes (act_case m s acts Named) _ ok) i h))
 
 -- one of the links joins two ends, or none does
 pub joined_at : (links : List Link) (n from to : ℕ) → linked links n from to ≡ true → (i : ℕ) × (x : Link) × (slice_get links i ≡ Some x) × (joins x from to ≡ true)

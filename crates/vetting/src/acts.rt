@@ -1,6 +1,6 @@
 // What is looked for in acts before they are written.
 ghost use Rattle.std.specs.Prelude.{◌≡◌, length};
-ghost use Rattle.vetting.specs.Vetted.{holds_at};
+ghost use Rattle.vetting.specs.Cases.{holds_at};
 ghost use Rattle.vetting.specs.Acts.{act_test, act_fault, act_case, acts_vetted, damages_none, breaks_limits};
 
 use crate::cases::ActCase;
@@ -22,11 +22,7 @@ fn breaks_limits<N: Numbering>(rules: &Rules<N>, acts: &[Act<N::Number>], place:
     ensures { result ≡ holds_at (breaks_limits (N.Numbering.meaning rules.now.numbering.now) rules.now.settings) acts.now place }
 {
     match acts.get(place) {
-        Some(Act::Damage(damage)) => {
-            let sensor = usize::from(damage.sensor);
-            let limits = rules.settings.limits();
-            !(limits.keep(sensor, damage.timer, damage.mark) && rules.numbering.lawful(damage.held))
-        }
+        Some(Act::Damage(damage)) => !rules.damage_keeps(*damage),
         Some(Act::Play(_)) | None => false,
     }
 }
