@@ -20,9 +20,13 @@ listed losses instant link = list_any (λ loss. loss.from == link.from && (loss.
 abbrev pub losses_carry : List Loss → Carrying → Carrying
 losses_carry losses below instant link links senders = below instant link links senders && not (listed losses instant link)
 
--- a link into the same receiver, from another sensor, which sends
+-- a link from another sensor, which sends
+abbrev pub rivals : Link → List ℕ → Link → Bool
+rivals link senders other = not (other.from == link.from) && sends senders other.from
+
+-- and into the same receiver
 abbrev pub meets : Link → List ℕ → Link → Bool
-meets link senders other = other.to == link.to && (not (other.from == link.from) && sends senders other.from)
+meets link senders other = other.to == link.to && rivals link senders other
 
 -- one of the links is such a one
 abbrev pub drowned : Link → List Link → List ℕ → Bool

@@ -1,9 +1,16 @@
 // Copies that other senders drown.
 ghost use Rattle.std.specs.Prelude.{◌≡◌};
-ghost use Rattle.air.specs.Airs.{drowned, Comes, collisions_carry};
+ghost use Rattle.air.specs.Airs.{drowned, Comes, collisions_carry, rivals};
 
 use crate::air::{Air, sends};
 use field::Link;
+
+// Is it another sensor, which sends? Few links need the answer, so it stands outside the loop over all of them.
+fn rivals(link: Link, senders: &[u8], other: Link) -> bool
+    ensures { result ≡ rivals link senders.now other }
+{
+    other.from != link.from && sends(senders, other.from)
+}
 
 // Does another sensor send over a link into the same receiver?
 fn drowned(link: Link, links: &[Link], senders: &[u8]) -> bool
@@ -11,7 +18,7 @@ fn drowned(link: Link, links: &[Link], senders: &[u8]) -> bool
 {
     for place in 0..links.len() {
         let other = links[place];
-        if other.to == link.to && other.from != link.from && sends(senders, other.from) {
+        if other.to == link.to && rivals(link, senders, other) {
             return true;
         }
     }

@@ -32,6 +32,13 @@ module _ {A : Type 0} (change : ℕ → A → A) where
       let there = ap (λ (ys : List A). slice_get ys i) (sym before) ∙ slice_get-get_or out i d within in
       rw (add-one i) (wrote ∙ ap (λ (ys : List A). set ys i (change i x)) before ∙ ap (λ (k : ℕ). set (changed change 0 i xs) i (change k x)) (sym (zero-add i)) ∙ turn 0 i xs x there)
 
+  -- the same where the item is changed by a function of its own
+  pub one_changed_by :
+      (i at : ℕ) → at ≡ i → (xs out new : List A) (d y : A)
+      → out ≡ changed change 0 i xs → at < length out → y ≡ change i (get_or out at d) → new ≡ set out at y → new ≡ changed change 0 (i + 1) xs
+  one_changed_by i at same xs out new d y before within changes wrote =
+      one_changed i xs out new d before (rw same at within) (wrote ∙ ap (λ (z : A). set out at z) changes ∙ ap (λ (k : ℕ). set out k (change i (get_or out k d))) same)
+
   pub none_changed : (i : ℕ) (xs out : List A) → out ≡ changed change 0 i xs → length out ≤ i → out ≡ changed change 0 (i + 1) xs
   none_changed i xs out before past_end =
       let none = ap (λ (ys : List A). slice_get ys i) (sym before) ∙ slice_get_past out i past_end in

@@ -3,7 +3,7 @@ ghost use Rattle.std.specs.Prelude.{◌≡◌, ℕ};
 ghost use Rattle.std.specs.List.{slice_get};
 ghost use Rattle.flood.specs.Instants.{changed, row_opened, opened, byte_of, sending, row_closed, closed, silent};
 
-use crate::opening::{open_base, open_other};
+use crate::opening::{open_base, open_other, wait};
 use air::DelayRule;
 use field::{Row, Rules};
 use numbering::Numbering;
@@ -22,24 +22,30 @@ fn change_each<T: Copy, F: Fn(u8, T) -> T>(items: &mut [T], n: u8, change: F)
     }
 }
 
-// A sensor as an instant opens; the base stays as it is where it must send and no number follows.
+// A sensor as an instant opens; the base stays as it is where it must send and no number follows. Most
+// sensors wait, so that alone is done in place.
 fn open_row<N: Numbering, D: DelayRule>(
     rules: &Rules<N>,
     delay: &D,
     instant: u32,
     sensor: u8,
-    row: Row<N::Number>,
-) -> Row<N::Number>
-    ensures { result ≡ row_opened (N.Numbering.meaning rules.now.numbering.now) rules.now.settings (D.DelayRule.period delay.now) instant sensor row }
+    row: &mut Row<N::Number>,
+)
+    ensures { row.new ≡ row_opened (N.Numbering.meaning rules.now.numbering.now) rules.now.settings (D.DelayRule.period delay.now) instant sensor row.old }
 {
-    if sensor == 0 {
-        open_base(rules, row).unwrap_or(row)
+    if row.timer > 1 {
+        wait(row)
+    } else if sensor == 0 {
+        if let Some(opened) = open_base(rules, *row) {
+            *row = opened;
+        }
     } else {
-        open_other(delay, rules.settings.tmax, instant, sensor, row)
+        *row = open_other(delay, rules.settings.tmax, instant, sensor, *row);
     }
 }
 
 // Opens the first n rows.
+#[tactic(auto, using(crate::proofs::Changes::changed_none, crate::proofs::Changes::one_changed, crate::proofs::Changes::none_changed))]
 pub fn open_rows<N: Numbering, D: DelayRule>(
     rules: &Rules<N>,
     delay: &D,
@@ -48,9 +54,12 @@ pub fn open_rows<N: Numbering, D: DelayRule>(
 )
     ensures { rows.new ≡ opened (N.Numbering.meaning rules.now.numbering.now) rules.now.settings (D.DelayRule.period delay.now) instant rows.old }
 {
-    change_each(rows, rules.settings.n, |sensor, row| {
-        open_row(rules, delay, instant, sensor, row)
-    })
+    for sensor in 0..rules.settings.n {
+        let at = usize::from(sensor);
+        if at < rows.len() {
+            open_row(rules, delay, instant, sensor, &mut rows[at]);
+        }
+    }
 }
 
 // A sensor without a row has nothing to send.

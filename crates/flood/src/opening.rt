@@ -7,14 +7,18 @@ use field::{Message, Row, Rules};
 use numbering::Numbering;
 
 // A timer above 1 falls by one; no outgoing message stays.
-fn waits<Number: Copy>(row: Row<Number>) -> Row<Number>
+pub fn wait<Number: Copy>(row: &mut Row<Number>)
+    ensures { row.new ≡ waits row.old }
+{
+    row.timer = row.timer.saturating_sub(1);
+    row.outgoing = None;
+}
+
+fn waiting<Number: Copy>(mut row: Row<Number>) -> Row<Number>
     ensures { result ≡ waits row }
 {
-    Row {
-        timer: row.timer.saturating_sub(1),
-        outgoing: None,
-        ..row
-    }
+    wait(&mut row);
+    row
 }
 
 // The base, which is sensor 0. At 1 it takes the next number and sends it, or there is none.
@@ -22,7 +26,7 @@ pub fn open_base<N: Numbering>(rules: &Rules<N>, row: Row<N::Number>) -> Option<
     ensures { result ≡ base_opened (N.Numbering.meaning rules.now.numbering.now) rules.now.settings row }
 {
     if row.timer > 1 {
-        return Some(waits(row));
+        return Some(waiting(row));
     }
     let number = rules.numbering.next(row.held)?;
     let hop = rules.settings.hmax;
@@ -45,7 +49,7 @@ pub fn open_other<Number: Copy, D: DelayRule>(
     ensures { result ≡ other_opened (D.DelayRule.period delay.now tmax instant sensor) row }
 {
     if row.timer > 1 {
-        return waits(row);
+        return waiting(row);
     }
     let number = row.held;
     let outgoing = match row.mark {

@@ -128,7 +128,8 @@ impl<N: Numbering> InMemory<'_, '_, '_, '_, '_, N> {
         ensures { result ≡ bad_damage (seen_in N.Numbering.meaning self.now) self.now.named place }
     {
         match self.named {
-            Named::Damaged(damage) => place == usize::from(damage.sensor) && !self.rules.damage_keeps(damage),
+            Named::Damaged(damage) => place == usize::from(damage.sensor)
+                && !self.rules.damage_keeps(damage),
             Named::Nothing | Named::Sensor(_) => false,
         }
     }
