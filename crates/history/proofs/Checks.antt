@@ -177,7 +177,7 @@ module _ {Num : Type 0} (lent : Lent Num) (world next : World Num) where
 
   -- a damage that is granted
   pub damaging_gives :
-      (damage : Damage Num) → damaging lent damage world ≡ Ok next
+      (damage : Damage Num) → damaging lent.field damage world ≡ Ok next
       → (next ≡ world_damaged damage world) × (damage.sensor < lent.field.settings.n) × (row_keeps lent.field.numbering lent.field.settings Between damage.sensor (damaged_row damage) ≡ true)
   damaging_gives damage e =
       let field = lent.field in

@@ -11,7 +11,7 @@ use Rattle.field.specs.declared.Row.{Row}
 use Rattle.field.specs.declared.Stage.TheVariants.{Between, Within}
 use Rattle.flood.specs.Copies.{message_on, copy_at, next_copy}
 use Rattle.history.proofs.Places.{none_is_some}
-use Rattle.history.specs.Calls.{can_open, may_open, may_close, AfterCopy, opening, world_opened, carrying, copy_taken, next_taken, closing, world_closed, damaging, world_damaged, looking}
+use Rattle.history.specs.Calls.{can_open, copy_left, copy_over, may_open, may_close, AfterCopy, opening, world_opened, carrying, copy_taken, next_taken, closing, world_closed, damaging, world_damaged, looking}
 use Rattle.vetting.specs.Cases.{declines_where}
 use Rattle.history.specs.Checks.{checked}
 use Rattle.vetting.specs.declared.Named.TheVariants.{Nothing, Damaged}
@@ -67,22 +67,39 @@ module _ {Num : Type 0} (lent : Lent Num) where
   pub opening_passed : (world next : World Num) → opening lent world ≡ Ok next → checked lent.field Nothing Between world.rows world.senders ≡ Ok tt
   opening_passed world next e = granted_first _ (can_open lent world) tt (granted_first (may_open lent world) _ next e)
 
-  pub closing_passed : (world next : World Num) → closing lent world ≡ Ok next → checked lent.field Nothing Within world.rows world.senders ≡ Ok tt
-  closing_passed world next e = granted_first _ (declines_where (is_some (next_taken lent world)) CopyLeft) tt (granted_first (may_close lent world) _ next e)
+  pub closing_passed : (world next : World Num) → closing lent.field world ≡ Ok next → checked lent.field Nothing Within world.rows world.senders ≡ Ok tt
+  closing_passed world next e = granted_first _ (declines_where (copy_left lent.field world) CopyLeft) tt (granted_first (may_close lent.field world) _ next e)
+
+  -- where no copy is left, there is no next one
+  pub none_taken : (world : World Num) → copy_left lent.field world ≡ false → next_taken lent world ≡ None
+  unfolding next_taken
+  none_taken world = by world.position
+    where
+      none_next :
+          (o : Option ℕ) → is_some o ≡ false
+          → let next : Option (AfterCopy Num) = elim o [ None ↦ None | Some place ↦ copy_over lent world place ] in next ≡ None
+      none_next None e = refl
+      none_next (Some place) e = absurd cc
+
+      by :
+          (o : Option ℕ) → elim o [ None ↦ false | Some position ↦ is_some (next_copy world.rows (told_links lent.field) position) ] ≡ false
+          → let next : Option (AfterCopy Num) = elim o [ None ↦ None | Some position ↦ elim (next_copy world.rows (told_links lent.field) position) [ None ↦ None | Some place ↦ copy_over lent world place ] ] in next ≡ None
+      by None e = refl
+      by (Some position) e = none_next (next_copy world.rows (told_links lent.field) position) e
 
   -- a close that is granted closes the instant, and no copy is left
-  closing_is : (world next : World Num) → closing lent world ≡ Ok next → (next_taken lent world ≡ None) × (world_closed lent world ≡ next)
-  closing_is world next e = (by (next_taken lent world) none_left, ok_is _ next (granted_ok (may_close lent world) _ next e))
+  closing_is : (world next : World Num) → closing lent.field world ≡ Ok next → (next_taken lent world ≡ None) × (world_closed lent.field world ≡ next)
+  closing_is world next e = (none_taken world (by (copy_left lent.field world) none_left), ok_is _ next (granted_ok (may_close lent.field world) _ next e))
     where
-      none_left : declines_where (is_some (next_taken lent world)) CopyLeft ≡ Ok tt
-      none_left = granted_ok (checked lent.field Nothing Within world.rows world.senders) _ tt (granted_first (may_close lent world) _ next e)
+      none_left : declines_where (copy_left lent.field world) CopyLeft ≡ Ok tt
+      none_left = granted_ok (checked lent.field Nothing Within world.rows world.senders) _ tt (granted_first (may_close lent.field world) _ next e)
 
-      by : (o : Option (AfterCopy Num)) → declines_where (is_some o) CopyLeft ≡ Ok tt → o ≡ None
-      by None e = refl
-      by (Some copy) e = absurd cc
+      by : (left : Bool) → declines_where left CopyLeft ≡ Ok tt → left ≡ false
+      by true e = absurd cc
+      by false e = refl
 
   -- a damage that is granted is done
-  pub damaging_is : (damage : Damage Num) (world next : World Num) → damaging lent damage world ≡ Ok next → world_damaged damage world ≡ next
+  pub damaging_is : (damage : Damage Num) (world next : World Num) → damaging lent.field damage world ≡ Ok next → world_damaged damage world ≡ next
   damaging_is damage world next e = ok_is _ next (granted_ok (checked lent.field (Damaged damage) Between world.rows world.senders) _ next e)
 
   -- The next copy goes over the link at a place from the position on.
@@ -238,8 +255,8 @@ module _ {Num : Type 0} (lent : Lent Num) where
     pub none_left : P (only_answers lent world (Copied None))
     pub opens : (next : World Num) → world.position ≡ None → opening lent world ≡ Ok next → P (record { answer = Granted; events = open_events world next; world = next })
     pub takes : (position : ℕ) (next : AfterCopy Num) → world.position ≡ Some position → carrying lent world ≡ Ok (Some next) → P (record { answer = Copied (Some next.copy); events = Takes next.copy ∷ []; world = next.world })
-    pub closes : (position : ℕ) (next : World Num) → world.position ≡ Some position → closing lent world ≡ Ok next → P (record { answer = Granted; events = []; world = next })
-    pub damages : (damage : Damage Num) (next : World Num) → world.position ≡ None → damaging lent damage world ≡ Ok next → P (record { answer = Granted; events = Damages ∷ []; world = next })
+    pub closes : (position : ℕ) (next : World Num) → world.position ≡ Some position → closing lent.field world ≡ Ok next → P (record { answer = Granted; events = []; world = next })
+    pub damages : (damage : Damage Num) (next : World Num) → world.position ≡ None → damaging lent.field damage world ≡ Ok next → P (record { answer = Granted; events = Damages ∷ []; world = next })
     pub plays : (budget room : ℕ) → world.position ≡ None → P (plays_on lent world (playing lent budget room world))
 
   pub called_by : (world : World Num) (P : Outcome Num → Type 0) (call : Call Num) → Ways world P → P (called lent world call)
@@ -250,7 +267,7 @@ module _ {Num : Type 0} (lent : Lent Num) where
       opened here (Err fault) e = ways.declines fault
 
       damaged :
-          (damage : Damage Num) → world.position ≡ None → (o : Result (World Num) RunFault) → damaging lent damage world ≡ o
+          (damage : Damage Num) → world.position ≡ None → (o : Result (World Num) RunFault) → damaging lent.field damage world ≡ o
           → P (moves_on lent world (λ next. Damages ∷ []) o)
       damaged damage here (Ok next) e = ways.damages damage next here e
       damaged damage here (Err fault) e = ways.declines fault
@@ -263,8 +280,8 @@ module _ {Num : Type 0} (lent : Lent Num) where
       between Open here = opened here (opening lent world) refl
       between Carry here = ways.not_let
       between Close here = ways.not_let
-      between (Damaging damage) here = damaged damage here (damaging lent damage world) refl
-      between (Look sensor) here = shown (looking lent sensor world)
+      between (Damaging damage) here = damaged damage here (damaging lent.field damage world) refl
+      between (Look sensor) here = shown (looking lent.field sensor world)
       between (Play budget room) here = ways.plays budget room here
 
       carried : (position : ℕ) → world.position ≡ Some position → (o : Result (Option (AfterCopy Num)) RunFault) → carrying lent world ≡ o → P (takes_on lent world o)
@@ -272,14 +289,14 @@ module _ {Num : Type 0} (lent : Lent Num) where
       carried position here (Ok (Some next)) e = ways.takes position next here e
       carried position here (Err fault) e = ways.declines fault
 
-      closed : (position : ℕ) → world.position ≡ Some position → (o : Result (World Num) RunFault) → closing lent world ≡ o → P (moves_on lent world (λ next. []) o)
+      closed : (position : ℕ) → world.position ≡ Some position → (o : Result (World Num) RunFault) → closing lent.field world ≡ o → P (moves_on lent world (λ next. []) o)
       closed position here (Ok next) e = ways.closes position next here e
       closed position here (Err fault) e = ways.declines fault
 
       within : (call : Call Num) (position : ℕ) → world.position ≡ Some position → P (called_within lent world call)
       within Open position here = ways.not_let
       within Carry position here = carried position here (carrying lent world) refl
-      within Close position here = closed position here (closing lent world) refl
+      within Close position here = closed position here (closing lent.field world) refl
       within (Damaging damage) position here = ways.not_let
       within (Look sensor) position here = ways.not_let
       within (Play budget room) position here = ways.not_let
@@ -291,8 +308,8 @@ module _ {Num A : Type 0} (lent : Lent Num) (note : A → Event Num → A) (P : 
     pub takes :
         (world : World Num) (position : ℕ) (next : AfterCopy Num) (a : A) → P world a → world.position ≡ Some position
         → next_taken lent world ≡ Some next → P next.world (note a (Takes next.copy))
-    pub closes : (world : World Num) (position : ℕ) (a : A) → P world a → world.position ≡ Some position → next_taken lent world ≡ None → P (world_closed lent world) a
-    pub damages : (world next : World Num) (damage : Damage Num) (a : A) → P world a → world.position ≡ None → damaging lent damage world ≡ Ok next → P next (note a Damages)
+    pub closes : (world : World Num) (position : ℕ) (a : A) → P world a → world.position ≡ Some position → next_taken lent world ≡ None → P (world_closed lent.field world) a
+    pub damages : (world next : World Num) (damage : Damage Num) (a : A) → P world a → world.position ≡ None → damaging lent.field damage world ≡ Ok next → P next (note a Damages)
 
   module _ (steps : Steps) where
     pub copies_kept :

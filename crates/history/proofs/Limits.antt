@@ -1,7 +1,7 @@
 -- Each call keeps a run within its limits. Assumes nothing.
-use Rattle.std.proofs.Common.{◌≡◌, ℕ, suc, ◌<◌, ◌≤◌, true, not, ◌&&◌, ltb, List, length, set, Some, None, Ok, Option, sym, refl, ap, ◌∙◌, subst, arith, ◌⊎◌, inl, inr}
+use Rattle.std.proofs.Common.{◌≡◌, ℕ, suc, ◌<◌, ◌≤◌, true, false, not, ◌&&◌, ltb, List, length, set, is_some, Some, None, Ok, Option, sym, refl, ap, ◌∙◌, subst, arith, ◌⊎◌, inl, inr}
 use Rattle.std.specs.List.{slice_get}
-use Rattle.std.specs.Prelude.{◌==◌}
+use Rattle.std.specs.Prelude.{◌==◌, nat_le}
 use Rattle.std.proofs.lemmas.Bool.{and_parts, ltb-true, eqb-false, not-true}
 use Rattle.std.proofs.lemmas.List.{length-set}
 use Rattle.air.specs.Delays.{KeepsPeriods}
@@ -12,10 +12,10 @@ use Rattle.field.specs.declared.Row.{Row}
 use Rattle.field.specs.declared.Stage.{Stage}
 use Rattle.field.specs.declared.Stage.TheVariants.{Beginning, Between, Within}
 use Rattle.field.specs.Rows.{message_keeps, row_keeps}
-use Rattle.flood.specs.Copies.{message_on}
+use Rattle.flood.specs.Copies.{copy_at, copy_here, message_on, next_copy}
 use Rattle.flood.specs.Instants.{row_opened, row_closed, byte_of, closed, silent}
 use Rattle.numbering.specs.Meaning.{Meaning, KeepsLawful}
-use Rattle.history.specs.Calls.{AfterCopy, none_yet, begun, opening, world_opened, rows_opened, damaging, world_damaged, damaged_row, world_closed, next_taken, copy_taken, comes_through}
+use Rattle.history.specs.Calls.{AfterCopy, copy_left, copy_over, none_yet, begun, opening, world_opened, rows_opened, damaging, world_damaged, damaged_row, world_closed, next_taken, copy_taken, comes_through}
 use Rattle.history.specs.Checks.{checked_first}
 use Rattle.vetting.specs.declared.Named.TheVariants.{Nothing}
 use Rattle.history.specs.Histories.{Call, history}
@@ -23,6 +23,7 @@ use Rattle.history.specs.Limits.{stage_of, LinksKeep, InLimits, LimitsAreKept, C
 use Rattle.history.specs.Plays.{copies_taken, instant_gone}
 use Rattle.history.specs.Worlds.{Field, Lent, World, told_links}
 use Rattle.history.specs.declared.taking.Counts.{Counts}
+use Rattle.search.proofs.Places.{is_lowest}
 use Rattle.history.proofs.Kept.{opening_passed, ok_is, granted_ok, granted_first, opening_is, carried_from, onward_from, taken_within, closed_between, Steps, copies_kept, instant_kept, kept}
 use Rattle.history.proofs.Checks.{check_passes, names_nothing, check_gives, first_gives, links_kept, opening_gives, damaging_gives}
 use Rattle.history.proofs.RowLimits.{Keeps, row_parts, row_from, closed_keeps, none_outgoing, opened_keeps, taken_keeps}
@@ -111,12 +112,12 @@ module _ {Num : Type 0} (lent : Lent Num) where
   abbrev field : Field Num
   field = lent.field
 
-  pub closed_in_limits : (world : World Num) → InLimits field world → InLimits field (world_closed lent world)
+  pub closed_in_limits : (world : World Num) → InLimits field world → InLimits field (world_closed lent.field world)
   unfolding world_closed
   closed_in_limits world limits =
       quiet field (stage_of world.position) world.rows world.senders limits.rows_there limits.bytes_there limits.rows_keep world
 
-  pub damaged_in_limits : (damage : Damage Num) (world next : World Num) → world.position ≡ None → damaging lent damage world ≡ Ok next → InLimits field world → InLimits field next
+  pub damaged_in_limits : (damage : Damage Num) (world next : World Num) → world.position ≡ None → damaging lent.field damage world ≡ Ok next → InLimits field world → InLimits field next
   unfolding world_damaged
   damaged_in_limits damage world next here granted limits =
       let gives = damaging_gives lent world next damage granted in
@@ -183,6 +184,48 @@ module _ {Num : Type 0} (lent : Lent Num) where
       pub history_in_limits : (calls : List (Call Num)) (world : World Num) → InLimits field world → InLimits field (history lent calls world).world
       history_in_limits calls world limits = kept lent (λ t event. t) In steps_in_limits calls world tt limits
 
+module _ {Num : Type 0} (lent : Lent Num) (links : LinksKeep lent.field) (world : World Num) (limits : InLimits lent.field world) where
+  -- a copy that goes over a link is taken: its receiver has a row
+  taken_there : (place : ℕ) → copy_here world.rows (told_links lent.field) place ≡ true → is_some (copy_over lent world place) ≡ true
+  taken_there place = by (slice_get (told_links lent.field) place) refl
+    where
+      with_row : (link : Link) → link.to < lent.field.settings.n → (o : Option (Message Num)) → is_some o ≡ true
+          → is_some (elim o [ None ↦ None | Some message ↦ elim (slice_get world.rows link.to) [ None ↦ None | Some row ↦ Some (copy_taken lent world place link message row) ] ]) ≡ true
+      with_row link within None e = absurd cc
+      with_row link within (Some message) e = let row = there_is world.rows link.to (omega (arith, limits.rows_there)) in rw row.1 refl
+
+      by :
+          (o : Option Link) → slice_get (told_links lent.field) place ≡ o → elim o [ None ↦ false | Some link ↦ is_some (message_on world.rows link) ] ≡ true
+          → is_some (elim o [
+            | None ↦ None
+            | Some link ↦ elim (message_on world.rows link) [
+              | None ↦ None
+              | Some message ↦ elim (slice_get world.rows link.to) [ None ↦ None | Some row ↦ Some (copy_taken lent world place link message row) ]
+            ]
+          ]) ≡ true
+      by None there e = absurd cc
+      by (Some link) there e = with_row link (link_gives lent.field links place link there).1 (message_on world.rows link) e
+
+  -- That a copy is left, by the links alone, is that carry would answer one.
+  pub left_is_taken : copy_left lent.field world ≡ is_some (next_taken lent world)
+  unfolding next_taken
+  left_is_taken = by world.position
+    where
+      next_is :
+          (start : ℕ) (o : Option ℕ) → next_copy world.rows (told_links lent.field) start ≡ o
+          → is_some o ≡ is_some (elim o [ None ↦ None | Some place ↦ copy_over lent world place ])
+      next_is start None e = refl
+      next_is start (Some place) e =
+          let is = is_lowest (copy_at world.rows (told_links lent.field) start) (length (told_links lent.field)) (Some place) (sym e) in
+          sym (taken_there place (and_parts (nat_le start place) _ is.1).1)
+
+      by :
+          (o : Option ℕ)
+          → elim o [ None ↦ false | Some position ↦ is_some (next_copy world.rows (told_links lent.field) position) ]
+          ≡ is_some (elim o [ None ↦ None | Some position ↦ elim (next_copy world.rows (told_links lent.field) position) [ None ↦ None | Some place ↦ copy_over lent world place ] ])
+      by None = refl
+      by (Some position) = next_is position (next_copy world.rows (told_links lent.field) position) refl
+
 pub limits_are_kept : {Num : Type 0} (field : Field Num) → KeepsLawful field.numbering → (rows : List (Row Num)) (senders : List ℕ) → LimitsAreKept field rows senders
 unfolding LimitsAreKept
 limits_are_kept {Num} field lawful rows senders period carries periods start e calls =
@@ -203,6 +246,9 @@ checks_stay {Num} m numbers lent same periods = record {
       let told = check_gives lent.field Nothing world (Some at.0) at.1 passed in
       let f = carried_from lent world at.0 next at.1 some in
       check_passes lent.field told.0 next.world (taken_in_limits lent told.0 world at.0 next at.1 some told.1) Nothing (names_nothing lent.field) (Some (suc f.place)) (onward_from lent world at.0 next f);
+  left = λ world position here passed.
+      let told = check_gives lent.field Nothing world (Some position) here passed in
+      left_is_taken lent told.0 world told.1;
   instants = λ world next here granted.
       let told = before world next here granted in
       check_passes lent.field told.0 _ (instant_in_limits lent lawful periods told.0 world next here granted told.1) Nothing (names_nothing lent.field) None (closed_between lent world);

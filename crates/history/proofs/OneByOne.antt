@@ -17,7 +17,7 @@ use Rattle.history.specs.Worlds.{Field, Lent, World, told_links}
 use Rattle.vetting.specs.declared.Named.TheVariants.{Nothing}
 use Rattle.history.proofs.Checks.{check_passes, names_nothing, links_kept}
 use Rattle.history.proofs.Kept.{opening_is, carried_from, onward_from, copied, none_left, tried_done, played, closed_between}
-use Rattle.history.proofs.Limits.{begun_in_limits, history_in_limits, opened_in_limits, taken_in_limits, copies_in_limits, instant_in_limits}
+use Rattle.history.proofs.Limits.{begun_in_limits, history_in_limits, opened_in_limits, taken_in_limits, copies_in_limits, instant_in_limits, left_is_taken}
 
 module _ {Num : Type 0} (lent : Lent Num) where
   no_calls : (world : World Num) → OneByOne lent world [] world
@@ -61,8 +61,8 @@ module _
 
   closes :
       (world : World Num) (position : ℕ) → InLimits lent.field world → world.position ≡ Some position → next_taken lent world ≡ None
-      → called lent world Close ≡ record { answer = Granted; events = []; world = world_closed lent world }
-  closes world position limits here none = within_is lent world Close position here ∙ rw (check_passes lent.field links world limits Nothing (names_nothing lent.field) (Some position) here, none) refl
+      → called lent world Close ≡ record { answer = Granted; events = []; world = world_closed lent.field world }
+  closes world position limits here none = within_is lent world Close position here ∙ rw (check_passes lent.field links world limits Nothing (names_nothing lent.field) (Some position) here, left_is_taken lent links world limits, none) refl
 
   -- the copies of an open instant, before the calls that follow them
   copies_first :

@@ -180,7 +180,7 @@ module _ {Num : Type 0} (lent : Lent Num) where
   })
 
   looks : (world : World Num) (sensor : ℕ) → ChangesNothing world (called lent world (Look sensor))
-  looks world sensor = called_either lent (ChangesNothing world) world (Look sensor) (λ here. shown (looking lent sensor world)) (λ position here. (refl, refl))
+  looks world sensor = called_either lent (ChangesNothing world) world (Look sensor) (λ here. shown (looking lent.field sensor world)) (λ position here. (refl, refl))
     where
       shown : (o : Result (Row Num) RunFault) → ChangesNothing world (shows lent world o)
       shown (Ok row) = (refl, refl)

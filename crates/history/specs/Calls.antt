@@ -127,25 +127,31 @@ module _ {Num : Type 0} (lent : Lent Num) where
   abbrev pub carrying : World Num → Result (Option (AfterCopy Num)) RunFault
   carrying world = result_and (checked lent.field Nothing Within world.rows world.senders) (Ok (next_taken world))
 
+-- The calls below ask no delay rule and no air.
+module _ {Num : Type 0} (field : Field Num) where
+  -- a copy is left: there is a next one
+  abbrev pub copy_left : World Num → Bool
+  copy_left world = elim world.position [ None ↦ false | Some position ↦ is_some (next_copy world.rows (told_links field) position) ]
+
   -- an instant that is closed
   unfoldable pub world_closed : World Num → World Num
-  world_closed world = record world { rows = closed lent.field.settings.n world.rows; senders = silent lent.field.settings.n world.senders; position = None }
+  world_closed world = record world { rows = closed field.settings.n world.rows; senders = silent field.settings.n world.senders; position = None }
 
   -- Close: 14 after the check.
   abbrev pub may_close : World Num → Result (Unit {0}) RunFault
-  may_close world = result_and (checked lent.field Nothing Within world.rows world.senders) (declines_where (is_some (next_taken world)) CopyLeft)
+  may_close world = result_and (checked field Nothing Within world.rows world.senders) (declines_where (copy_left world) CopyLeft)
 
   abbrev pub closing : World Num → Result (World Num) RunFault
   closing world = result_and (may_close world) (Ok (world_closed world))
 
   -- Damage, between instants.
   abbrev pub damaging : Damage Num → World Num → Result (World Num) RunFault
-  damaging damage world = result_and (checked lent.field (Damaged damage) Between world.rows world.senders) (Ok (world_damaged damage world))
+  damaging damage world = result_and (checked field (Damaged damage) Between world.rows world.senders) (Ok (world_damaged damage world))
 
   -- Look, between instants: the row, and nothing changes.
   abbrev pub looking : ℕ → World Num → Result (Row Num) RunFault
-  looking sensor world = result_and (checked lent.field (Sensor sensor) Between world.rows world.senders) (ok_or (slice_get world.rows sensor) ShortBuffer)
+  looking sensor world = result_and (checked field (Sensor sensor) Between world.rows world.senders) (ok_or (slice_get world.rows sensor) ShortBuffer)
 
   -- Finish, between instants: what has been counted since the run began.
   abbrev pub finishing : World Num → Result Counts RunFault
-  finishing world = result_and (checked lent.field Nothing Between world.rows world.senders) (Ok world.counts)
+  finishing world = result_and (checked field Nothing Between world.rows world.senders) (Ok world.counts)

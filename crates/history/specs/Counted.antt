@@ -46,4 +46,4 @@ module _ {Num : Type 0} where
 unfoldable pub CountsTell : {Num : Type 0} → Field Num → List (Row Num) → List ℕ → Type 0
 CountsTell field rows senders =
     InEveryRun field rows senders (λ lent went.
-    Counted went.world.counts went.events × ((counts : Counts) → finishing lent went.world ≡ Ok counts → Counted counts went.events))
+    Counted went.world.counts went.events × ((counts : Counts) → finishing lent.field went.world ≡ Ok counts → Counted counts went.events))

@@ -66,15 +66,15 @@ module _ {Num : Type 0} (lent : Lent Num) (world : World Num) where
   called_between Open = moves_on (open_events world) (opening lent world)
   called_between Carry = only_answers NotLet
   called_between Close = only_answers NotLet
-  called_between (Damaging damage) = moves_on (λ next. Damages ∷ []) (damaging lent damage world)
-  called_between (Look sensor) = shows (looking lent sensor world)
+  called_between (Damaging damage) = moves_on (λ next. Damages ∷ []) (damaging lent.field damage world)
+  called_between (Look sensor) = shows (looking lent.field sensor world)
   called_between (Play budget room) = plays_on (playing lent budget room world)
 
   -- a call within an instant
   abbrev pub called_within : Call Num → Outcome Num
   called_within Open = only_answers NotLet
   called_within Carry = takes_on (carrying lent world)
-  called_within Close = moves_on (λ next. []) (closing lent world)
+  called_within Close = moves_on (λ next. []) (closing lent.field world)
   called_within (Damaging damage) = only_answers NotLet
   called_within (Look sensor) = only_answers NotLet
   called_within (Play budget room) = only_answers NotLet

@@ -1,12 +1,12 @@
 -- A run within its limits. Assumes nothing.
-use Rattle.std.specs.Prelude.{◌≡◌, ℕ, ◌<◌, ◌≤◌, true, false, List, [], length, Some, None, Ok, Option, slice_get}
+use Rattle.std.specs.Prelude.{◌≡◌, ℕ, ◌<◌, ◌≤◌, true, false, List, [], length, is_some, Some, None, Ok, Option, slice_get}
 use Rattle.field.specs.declared.Link.{Link}
 use Rattle.field.specs.declared.Row.{Row}
 use Rattle.field.specs.declared.Stage.{Stage}
 use Rattle.field.specs.declared.Stage.TheVariants.{Between, Within}
 use Rattle.field.specs.Rows.{ends_within, link_keeps, row_keeps}
 use Rattle.flood.specs.Instants.{byte_of}
-use Rattle.history.specs.Calls.{AfterCopy, opening, next_taken}
+use Rattle.history.specs.Calls.{AfterCopy, copy_left, opening, next_taken}
 use Rattle.vetting.specs.Cases.{bad_damage, names_none}
 use Rattle.vetting.specs.declared.Named.{Named}
 use Rattle.vetting.specs.declared.Named.TheVariants.{Nothing}
@@ -50,12 +50,15 @@ LimitsAreKept {Num} field rows senders = InEveryRun field rows senders (λ lent 
     × ((next : World Num) → went.world.position ≡ None → opening lent went.world ≡ Ok next → InLimits field (instant_gone lent went.world).world))
 
 -- Whatever is lent, in a run or not, a check that has passed goes on to pass: in an instant that open granted, copy after copy, and
--- after it. So play may check once.
+-- after it. So play may check once. And where it has passed, close tells that a copy is left exactly where carry would answer one.
 pub record ChecksStay {Num : Type 0} (lent : Lent Num) : Type 0 where
   pub opens : (world next : World Num) → world.position ≡ None → opening lent world ≡ Ok next → checked lent.field Nothing Within next.rows next.senders ≡ Ok tt
   pub takes :
       (world : World Num) (next : AfterCopy Num) → checked lent.field Nothing Within world.rows world.senders ≡ Ok tt → next_taken lent world ≡ Some next
       → checked lent.field Nothing Within next.world.rows next.world.senders ≡ Ok tt
+  pub left :
+      (world : World Num) (position : ℕ) → world.position ≡ Some position → checked lent.field Nothing Within world.rows world.senders ≡ Ok tt
+      → copy_left lent.field world ≡ is_some (next_taken lent world)
   pub instants :
       (world next : World Num) → world.position ≡ None → opening lent world ≡ Ok next
       → checked lent.field Nothing Between (instant_gone lent world).world.rows (instant_gone lent world).world.senders ≡ Ok tt

@@ -64,7 +64,7 @@ module _ {Num : Type 0} (lent : Lent Num) where
   instant_gone world =
       let opened = world_opened lent world in
       let gone = copies_taken (length (told_links lent.field)) opened in
-      record { events = open_events world opened ++ gone.events; world = world_closed lent gone.world }
+      record { events = open_events world opened ++ gone.events; world = world_closed lent.field gone.world }
 
   -- A log can be short only for an instant that open would grant: one that it would refuse has no copies.
   unfoldable pub tried : ℕ → World Num → Tried Num
