@@ -170,9 +170,9 @@ module _ {Num : Type 0} (field : Field Num) where
 
 module _ {Num : Type 0} (lent : Lent Num) (world next : World Num) where
   -- an instant that opens
-  pub opening_gives : opening lent world ≡ Ok next → (next ≡ world_opened lent world) × (no_number lent world ≡ false)
+  pub opening_gives : opening lent world ≡ Ok next → (next ≡ world_opened lent world) × (no_number lent.field world ≡ false)
   opening_gives e =
-      let passes = granted_ok (checked lent.field Nothing Between world.rows world.senders) _ tt (granted_first (may_open lent world) _ next e) in
+      let passes = granted_ok (checked lent.field Nothing Between world.rows world.senders) _ tt (granted_first (may_open lent.field world) _ next e) in
       (sym (opening_is lent world next e), enough _ NoNumber (ap is_ok (granted_ok (declines_where (world.instant == 4294967295) LastInstant) _ tt passes)))
 
   -- a damage that is granted

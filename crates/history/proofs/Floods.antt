@@ -142,7 +142,7 @@ module _ {Num : Type 0} (lent : Lent Num) (lawful : KeepsLawful lent.field.numbe
   rows_kept : (world : World Num) → InLimits lent.field world → EachRow s.n (RowKept lent.field) world.rows
   rows_kept world limits sensor row h e = row_kept lent.field _ sensor row (row_at lent.field world world.position refl limits sensor row h e)
 
-  module _ (world : World Num) (limits : InLimits lent.field world) (numbered : no_number lent world ≡ false) where
+  module _ (world : World Num) (limits : InLimits lent.field world) (numbered : no_number lent.field world ≡ false) where
     all_there : (sensor : ℕ) → sensor < s.n → (row : Row Num) × (slice_get world.rows sensor ≡ Some row)
     all_there sensor h = there_is world.rows sensor (omega (arith, h, limits.rows_there))
 

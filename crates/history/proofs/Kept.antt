@@ -61,11 +61,11 @@ went_on gone rest = record { instants = suc rest.instants; events = gone.events 
 module _ {Num : Type 0} (lent : Lent Num) where
   -- an open that is granted opens the next instant
   pub opening_is : (world next : World Num) → opening lent world ≡ Ok next → world_opened lent world ≡ next
-  opening_is world next e = ok_is _ next (granted_ok (may_open lent world) _ next e)
+  opening_is world next e = ok_is _ next (granted_ok (may_open lent.field world) _ next e)
 
   -- where an open or a close is granted, the check passed
   pub opening_passed : (world next : World Num) → opening lent world ≡ Ok next → checked lent.field Nothing Between world.rows world.senders ≡ Ok tt
-  opening_passed world next e = granted_first _ (can_open lent world) tt (granted_first (may_open lent world) _ next e)
+  opening_passed world next e = granted_first _ (can_open lent.field world) tt (granted_first (may_open lent.field world) _ next e)
 
   pub closing_passed : (world next : World Num) → closing lent.field world ≡ Ok next → checked lent.field Nothing Within world.rows world.senders ≡ Ok tt
   closing_passed world next e = granted_first _ (declines_where (copy_left lent.field world) CopyLeft) tt (granted_first (may_close lent.field world) _ next e)

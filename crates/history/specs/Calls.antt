@@ -62,11 +62,20 @@ module _ {Num : Type 0} where
   unfoldable pub world_damaged : Damage Num → World Num → World Num
   world_damaged damage world = record world { rows = set world.rows damage.sensor (damaged_row damage); position = None }
 
-module _ {Num : Type 0} (lent : Lent Num) where
+module _ {Num : Type 0} (field : Field Num) where
   -- 13: the base must send, and no number follows
   abbrev pub no_number : World Num → Bool
-  no_number world = elim (slice_get world.rows 0) [ None ↦ false | Some row ↦ not (is_some (base_opened lent.field.numbering lent.field.settings row)) ]
+  no_number world = elim (slice_get world.rows 0) [ None ↦ false | Some row ↦ not (is_some (base_opened field.numbering field.settings row)) ]
 
+  -- 12, then 13
+  abbrev pub can_open : World Num → Result (Unit {0}) RunFault
+  can_open world = result_and (declines_where (world.instant == 4294967295) LastInstant) (declines_where (no_number world) NoNumber)
+
+  -- Open: 12 and 13 after the check.
+  abbrev pub may_open : World Num → Result (Unit {0}) RunFault
+  may_open world = result_and (checked field Nothing Between world.rows world.senders) (can_open world)
+
+module _ {Num : Type 0} (lent : Lent Num) where
   -- the rows once the next instant is open
   abbrev pub rows_opened : World Num → List (Row Num)
   rows_opened world = opened lent.field.numbering lent.field.settings lent.period (suc world.instant) world.rows
@@ -81,16 +90,8 @@ module _ {Num : Type 0} (lent : Lent Num) where
     counts = counted_open (is_some (outgoing_of (rows_opened world) 0)) world.counts;
   }
 
-  -- 12, then 13
-  abbrev pub can_open : World Num → Result (Unit {0}) RunFault
-  can_open world = result_and (declines_where (world.instant == 4294967295) LastInstant) (declines_where (no_number world) NoNumber)
-
-  -- Open: 12 and 13 after the check.
-  abbrev pub may_open : World Num → Result (Unit {0}) RunFault
-  may_open world = result_and (checked lent.field Nothing Between world.rows world.senders) (can_open world)
-
   abbrev pub opening : World Num → Result (World Num) RunFault
-  opening world = result_and (may_open world) (Ok (world_opened world))
+  opening world = result_and (may_open lent.field world) (Ok (world_opened world))
 
   -- does the air carry a copy over this link?
   abbrev pub comes_through : World Num → Link → Bool
