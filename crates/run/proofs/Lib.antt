@@ -1,0 +1,2 @@
+mod Onward
+mod Taking

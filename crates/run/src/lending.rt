@@ -1,0 +1,46 @@
+// What every call of a run is lent.
+ghost use Rattle.std.specs.Prelude.{◌≡◌, set, take};
+ghost use Rattle.flood.specs.Copies.{message_on};
+
+use field::{Link, Message, Row};
+use flood::message_on;
+use numbering::Numbering;
+
+/// What a field is played by and with: the same at each call of a run. Of the links only those that begin was told are looked at,
+/// of rows and sender bytes only the first n, one for each sensor.
+#[derive(Drop)]
+pub struct Lent<'n, 'd, 'a, 'l, 'r, 's, N: Numbering, D, A> {
+    pub numbering: &'n N,
+    pub delay: &'d D,
+    pub air: &'a A,
+    pub links: &'l [Link],
+    pub rows: &'r mut [Row<N::Number>],
+    pub senders: &'s mut [u8],
+}
+
+impl<N: Numbering, D, A> Lent<'_, '_, '_, '_, '_, '_, N, D, A> {
+    // What goes over a link: its sender's outgoing message, if there is one.
+    pub fn message_over(&self, link: Link) -> Option<Message<N::Number>>
+        ensures { result ≡ message_on self.now.rows.now link }
+    {
+        let rows = &*self.rows;
+        message_on(rows, link)
+    }
+}
+
+// The first items of a slice: all of them, where there are fewer.
+pub fn front<T>(items: &[T], count: usize) -> &[T]
+    ensures { result.now ≡ take count items.now }
+{
+    &items[..count.min(items.len())]
+}
+
+// Overwrites an item; past the end there is none.
+#[tactic(auto, using(std::proofs::lemmas::List::set_past))]
+pub fn put<T: Copy>(items: &mut [T], at: usize, item: T)
+    ensures { items.new ≡ set items.old at item }
+{
+    if at < items.len() {
+        items[at] = item;
+    }
+}

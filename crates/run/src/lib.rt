@@ -1,0 +1,11 @@
+// The calls of a run: each answers exactly its definition, or declines and changes nothing.
+#![tactic(auto)]
+
+mod between;
+mod checks;
+mod instants;
+mod lending;
+mod states;
+
+pub use lending::Lent;
+pub use states::{Declined, Idle, Instant};
