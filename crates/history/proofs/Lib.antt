@@ -8,6 +8,7 @@ mod OneByOne
 mod Paces
 mod Places
 mod PlayLaws
+pub mod Playing
 mod RowLimits
 mod Rows
 mod Running

@@ -29,7 +29,7 @@ use Rattle.history.specs.declared.taking.TakenCopy.{TakenCopy}
 use Rattle.refusal.specs.declared.RunFault.{RunFault}
 
 module _ {Num : Type 0} where
-  joined : (xs ys : List (Event Num)) → copies_in (xs ++ ys) ≡ copies_in xs ++ copies_in ys
+  pub joined : (xs ys : List (Event Num)) → copies_in (xs ++ ys) ≡ copies_in xs ++ copies_in ys
   unfolding copies_in
   joined [] ys = refl
   joined (Damages ∷ xs) ys = joined xs ys
