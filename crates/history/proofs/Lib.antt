@@ -7,7 +7,7 @@ mod Limits
 mod OneByOne
 mod Paces
 mod Places
-mod PlayLaws
+pub mod PlayLaws
 pub mod Playing
 mod RowLimits
 mod Rows
@@ -15,6 +15,7 @@ mod Running
 mod Sequences
 mod Tales
 mod TalesSettle
+mod ToCome
 mod Told
 mod Worked
 mod WorkedCalls
