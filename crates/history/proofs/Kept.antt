@@ -166,22 +166,24 @@ module _ {Num : Type 0} (lent : Lent Num) where
         by rest None e = rw (e, copies_taken) (none most world e)
         by rest (Some next) e = rw (e, copies_taken) (one most world next (copies_taken lent most next.world) e (rest next.world))
 
+  -- past the last link none is left
+  pub past_last : (world : World Num) (position : ℕ) → world.position ≡ Some position → length (told_links lent.field) ≤ position → next_taken lent world ≡ None
+  past_last world position here few = by (next_taken lent world) refl
+    where
+      by : (o : Option (AfterCopy Num)) → next_taken lent world ≡ o → next_taken lent world ≡ None
+      by None e = e
+      by (Some next) e = let f = carried_from world position next here e in absurd (omega (arith, f.onward, f.within))
+
   -- with as many copies as there are links from the position on, none is left
   pub none_left :
       (most position : ℕ) (world : World Num) → world.position ≡ Some position → length (told_links lent.field) ≤ position + most
       → next_taken lent (copies_taken lent most world).world ≡ None
   none_left most position world =
       copied (λ most world went. (position : ℕ) → world.position ≡ Some position → length (told_links lent.field) ≤ position + most → next_taken lent went.world ≡ None)
-      (λ world position here few. past world position here few (next_taken lent world) refl)
+      (λ world position here few. past_last world position here (omega (arith, few)))
       (λ most world e position here few. e)
       (λ most world next rest e before position here few. let f = carried_from world position next here e in before (suc f.place) (onward_from world position next f) (omega (arith, f.onward)))
       most world position
-    where
-      past :
-          (world : World Num) (position : ℕ) → world.position ≡ Some position → length (told_links lent.field) ≤ position + 0
-          → (o : Option (AfterCopy Num)) → next_taken lent world ≡ o → next_taken lent world ≡ None
-      past world position here few None e = e
-      past world position here few (Some next) e = let f = carried_from world position next here e in absurd (omega (arith, f.onward, f.within))
 
   -- an instant that is done was granted, and had room
   pub record Gone (room : ℕ) (world : World Num) : Type 0 where

@@ -4,11 +4,13 @@ mod Floods
 mod Keeping
 mod Kept
 mod Limits
+pub mod NextCopies
 mod OneByOne
 mod Paces
 mod Places
 pub mod PlayLaws
 pub mod Playing
+pub mod Quiet
 mod RowLimits
 mod Rows
 mod Running

@@ -153,7 +153,7 @@ module _ {Num : Type 0} (lent : Lent Num) where
       ended budget room world (Refused fault) e = rw (suc-add budget more) (playing_ends lent (budget + more) room world (Refused fault) e)
 
   -- the copies of an instant are those that are taken once it is open
-  instant_copies : (world : World Num) → copies_in (instant_gone lent world).events ≡ copies_in (copies_taken lent (length (told_links lent.field)) (world_opened lent world)).events
+  pub instant_copies : (world : World Num) → copies_in (instant_gone lent world).events ≡ copies_in (copies_taken lent (length (told_links lent.field)) (world_opened lent world)).events
   unfolding instant_gone
   instant_copies world = let first = world_opened lent world in joined (open_events world first) _ ∙ rw (opened world first).1 refl
 
