@@ -1,7 +1,7 @@
 -- What every step of a run keeps, a whole history keeps. Assumes nothing.
 use Rattle.std.proofs.lemmas.Option.{same_Some}
 use Rattle.std.proofs.Common.{◌≡◌, ℕ, zero, suc, ◌+◌, ◌<◌, ◌≤◌, Bool, true, false, List, [], ◌∷◌, ◌++◌, length, is_some, Some, None, Ok, Err, Option, Result, sym, refl, ap, ◌∙◌, subst, arith, leb-true}
-use Rattle.std.proofs.lemmas.Bool.{and_parts}
+use Rattle.std.proofs.lemmas.Bool.{and_parts, le-leb}
 use Rattle.std.specs.Prelude.{◌-◌, nat_le, nat_lt, slice_get}
 use Rattle.std.specs.Result.{result_and}
 use Rattle.field.specs.declared.Damage.{Damage}
@@ -9,7 +9,7 @@ use Rattle.field.specs.declared.Link.{Link}
 use Rattle.field.specs.declared.Message.{Message}
 use Rattle.field.specs.declared.Row.{Row}
 use Rattle.field.specs.declared.Stage.TheVariants.{Between, Within}
-use Rattle.flood.specs.Copies.{message_on, copy_at, next_copy}
+use Rattle.flood.specs.Copies.{message_on, copy_here, copy_at, next_copy}
 use Rattle.history.proofs.Places.{none_is_some}
 use Rattle.history.specs.Calls.{can_open, copy_left, copy_over, may_open, may_close, AfterCopy, opening, world_opened, carrying, copy_taken, next_taken, closing, world_closed, damaging, world_damaged, looking}
 use Rattle.vetting.specs.Cases.{declines_where}
@@ -109,6 +109,7 @@ module _ {Num : Type 0} (lent : Lent Num) where
     pub message : Message Num
     pub row : Row Num
     pub onward : position ≤ place
+    pub first : (k : ℕ) → position ≤ k → k < place → copy_here world.rows (told_links lent.field) k ≡ false
     pub within : place < length (told_links lent.field)
     pub there : slice_get (told_links lent.field) place ≡ Some link
     pub goes : message_on world.rows link ≡ Some message
@@ -124,13 +125,14 @@ module _ {Num : Type 0} (lent : Lent Num) where
       some_from (message_on world.rows link) _ next e λ message goes e.
       some_from (slice_get world.rows link.to) _ next e λ row comes e.
       let is = is_lowest (copy_at world.rows (told_links lent.field) start) (length (told_links lent.field)) (Some place) (sym found) in
-      let onward = leb-true start place (and_parts (nat_le start place) _ is.1).0 in
+      let from = same_Some start position (sym at ∙ here) in
       record {
         place = place;
         link = link;
         message = message;
         row = row;
-        onward = subst (λ (p : ℕ). p ≤ place) (same_Some start position (sym at ∙ here)) onward;
+        onward = subst (λ (p : ℕ). p ≤ place) from (leb-true start place (and_parts (nat_le start place) _ is.1).0);
+        first = λ k low high. rw (from, le-leb position k low) at (is.2 k high);
         within = is.0;
         there = there;
         goes = goes;
@@ -164,22 +166,24 @@ module _ {Num : Type 0} (lent : Lent Num) where
         by rest None e = rw (e, copies_taken) (none most world e)
         by rest (Some next) e = rw (e, copies_taken) (one most world next (copies_taken lent most next.world) e (rest next.world))
 
+  -- past the last link none is left
+  pub past_last : (world : World Num) (position : ℕ) → world.position ≡ Some position → length (told_links lent.field) ≤ position → next_taken lent world ≡ None
+  past_last world position here few = by (next_taken lent world) refl
+    where
+      by : (o : Option (AfterCopy Num)) → next_taken lent world ≡ o → next_taken lent world ≡ None
+      by None e = e
+      by (Some next) e = let f = carried_from world position next here e in absurd (omega (arith, f.onward, f.within))
+
   -- with as many copies as there are links from the position on, none is left
   pub none_left :
       (most position : ℕ) (world : World Num) → world.position ≡ Some position → length (told_links lent.field) ≤ position + most
       → next_taken lent (copies_taken lent most world).world ≡ None
   none_left most position world =
       copied (λ most world went. (position : ℕ) → world.position ≡ Some position → length (told_links lent.field) ≤ position + most → next_taken lent went.world ≡ None)
-      (λ world position here few. past world position here few (next_taken lent world) refl)
+      (λ world position here few. past_last world position here (omega (arith, few)))
       (λ most world e position here few. e)
       (λ most world next rest e before position here few. let f = carried_from world position next here e in before (suc f.place) (onward_from world position next f) (omega (arith, f.onward)))
       most world position
-    where
-      past :
-          (world : World Num) (position : ℕ) → world.position ≡ Some position → length (told_links lent.field) ≤ position + 0
-          → (o : Option (AfterCopy Num)) → next_taken lent world ≡ o → next_taken lent world ≡ None
-      past world position here few None e = e
-      past world position here few (Some next) e = let f = carried_from world position next here e in absurd (omega (arith, f.onward, f.within))
 
   -- an instant that is done was granted, and had room
   pub record Gone (room : ℕ) (world : World Num) : Type 0 where

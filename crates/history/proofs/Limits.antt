@@ -184,7 +184,7 @@ module _ {Num : Type 0} (lent : Lent Num) where
       pub history_in_limits : (calls : List (Call Num)) (world : World Num) → InLimits field world → InLimits field (history lent calls world).world
       history_in_limits calls world limits = kept lent (λ t event. t) In steps_in_limits calls world tt limits
 
-module _ {Num : Type 0} (lent : Lent Num) (links : LinksKeep lent.field) (world : World Num) (limits : InLimits lent.field world) where
+module _ {Num : Type 0} (lent : Lent Num) (links : LinksKeep lent.field) (world : World Num) (rows_there : lent.field.settings.n ≤ length world.rows) where
   -- a copy that goes over a link is taken: its receiver has a row
   taken_there : (place : ℕ) → copy_here world.rows (told_links lent.field) place ≡ true → is_some (copy_over lent world place) ≡ true
   taken_there place = by (slice_get (told_links lent.field) place) refl
@@ -192,7 +192,7 @@ module _ {Num : Type 0} (lent : Lent Num) (links : LinksKeep lent.field) (world 
       with_row : (link : Link) → link.to < lent.field.settings.n → (o : Option (Message Num)) → is_some o ≡ true
           → is_some (elim o [ None ↦ None | Some message ↦ elim (slice_get world.rows link.to) [ None ↦ None | Some row ↦ Some (copy_taken lent world place link message row) ] ]) ≡ true
       with_row link within None e = absurd cc
-      with_row link within (Some message) e = let row = there_is world.rows link.to (omega (arith, limits.rows_there)) in rw row.1 refl
+      with_row link within (Some message) e = let row = there_is world.rows link.to (omega arith) in rw row.1 refl
 
       by :
           (o : Option Link) → slice_get (told_links lent.field) place ≡ o → elim o [ None ↦ false | Some link ↦ is_some (message_on world.rows link) ] ≡ true
@@ -248,7 +248,7 @@ checks_stay {Num} m numbers lent same periods = record {
       check_passes lent.field told.0 next.world (taken_in_limits lent told.0 world at.0 next at.1 some told.1) Nothing (names_nothing lent.field) (Some (suc f.place)) (onward_from lent world at.0 next f);
   left = λ world position here passed.
       let told = check_gives lent.field Nothing world (Some position) here passed in
-      left_is_taken lent told.0 world told.1;
+      left_is_taken lent told.0 world told.1.rows_there;
   instants = λ world next here granted.
       let told = before world next here granted in
       check_passes lent.field told.0 _ (instant_in_limits lent lawful periods told.0 world next here granted told.1) Nothing (names_nothing lent.field) None (closed_between lent world);

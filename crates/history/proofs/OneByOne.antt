@@ -62,7 +62,7 @@ module _
   closes :
       (world : World Num) (position : ℕ) → InLimits lent.field world → world.position ≡ Some position → next_taken lent world ≡ None
       → called lent world Close ≡ record { answer = Granted; events = []; world = world_closed lent.field world }
-  closes world position limits here none = within_is lent world Close position here ∙ rw (check_passes lent.field links world limits Nothing (names_nothing lent.field) (Some position) here, left_is_taken lent links world limits, none) refl
+  closes world position limits here none = within_is lent world Close position here ∙ rw (check_passes lent.field links world limits Nothing (names_nothing lent.field) (Some position) here, left_is_taken lent links world limits.rows_there, none) refl
 
   -- the copies of an open instant, before the calls that follow them
   copies_first :

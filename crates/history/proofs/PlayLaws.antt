@@ -10,6 +10,7 @@ use Rattle.flood.specs.Instants.{changed}
 use Rattle.history.proofs.Kept.{opening_passed, closing_passed, no_instant, went_on, tried_done, playing_ends, playing_done, played, copied, called_either, called_by, granted_first, opening_is, carried_from, Steps, called_kept}
 use Rattle.history.proofs.Checks.{check_gives, damaging_gives}
 use Rattle.history.proofs.Limits.{link_gives}
+use Rattle.history.proofs.ToCome.{all_to_come, at_most}
 use Rattle.flood.specs.Copies.{outgoing_of}
 use Rattle.history.specs.Calls.{AfterCopy, opening, looking, world_opened, world_closed, world_damaged, copy_taken}
 use Rattle.vetting.specs.declared.Named.TheVariants.{Nothing, Damaged}
@@ -29,7 +30,7 @@ use Rattle.history.specs.declared.taking.TakenCopy.{TakenCopy}
 use Rattle.refusal.specs.declared.RunFault.{RunFault}
 
 module _ {Num : Type 0} where
-  joined : (xs ys : List (Event Num)) → copies_in (xs ++ ys) ≡ copies_in xs ++ copies_in ys
+  pub joined : (xs ys : List (Event Num)) → copies_in (xs ++ ys) ≡ copies_in xs ++ copies_in ys
   unfolding copies_in
   joined [] ys = refl
   joined (Damages ∷ xs) ys = joined xs ys
@@ -151,8 +152,20 @@ module _ {Num : Type 0} (lent : Lent Num) where
       ended budget room world LogShort e = rw (suc-add budget more) (playing_ends lent (budget + more) room world LogShort e)
       ended budget room world (Refused fault) e = rw (suc-add budget more) (playing_ends lent (budget + more) room world (Refused fault) e)
 
+  -- the copies of an instant are those that are taken once it is open
+  pub instant_copies : (world : World Num) → copies_in (instant_gone lent world).events ≡ copies_in (copies_taken lent (length (told_links lent.field)) (world_opened lent world)).events
+  unfolding instant_gone
+  instant_copies world = let first = world_opened lent world in joined (open_events world first) _ ∙ rw (opened world first).1 refl
+
   pub play_laws : PlayLaws lent
-  play_laws = record { goes_on = goes_on; within_budget = within_budget; within_room = within_room; ends = play_ends }
+  play_laws = record {
+    goes_on = goes_on;
+    within_budget = within_budget;
+    within_room = within_room;
+    ends = play_ends;
+    to_come = λ world next granted. ap length (instant_copies world) ∙ all_to_come lent world next granted;
+    few_copies = λ world. rw (instant_copies world) (at_most lent _ (world_opened lent world));
+  }
 
   -- the answers of calls that move a run on
   moves : Answer Num → Bool

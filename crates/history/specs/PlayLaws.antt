@@ -1,12 +1,12 @@
 -- What holds of play, and of every call. Assumes nothing.
-use Rattle.std.specs.Prelude.{◌≡◌, ℕ, ◌+◌, ◌-◌, ◌<◌, ◌≤◌, true, List, [], ◌∷◌, ◌++◌, length, drop, is_ok, Some, None, Err, count_by}
+use Rattle.std.specs.Prelude.{◌≡◌, ℕ, ◌+◌, ◌-◌, ◌<◌, ◌≤◌, true, List, [], ◌∷◌, ◌++◌, length, drop, is_ok, Some, None, Ok, Err, count_by}
 use Rattle.history.specs.Calls.{opening}
 use Rattle.history.specs.Counted.{opens}
 use Rattle.history.specs.Histories.{Answer, Call, Outcome, called, history}
 use Rattle.history.specs.Histories.Call.{Carry, Look}
 use Rattle.history.specs.Histories.Answer.{Granted, Copied, Shows, Plays, Declines, NotLet}
-use Rattle.history.specs.Plays.{Played, copies_in, instant_gone, playing}
-use Rattle.history.specs.Worlds.{Lent, World}
+use Rattle.history.specs.Plays.{Played, copies_in, copies_to_come, instant_gone, playing}
+use Rattle.history.specs.Worlds.{Lent, World, told_links}
 use Rattle.history.specs.declared.taking.Ending.{Ending}
 use Rattle.history.specs.declared.taking.Ending.TheVariants.{BudgetSpent, LogShort, Refused}
 use Rattle.history.specs.declared.taking.TakenCopy.{TakenCopy}
@@ -68,6 +68,9 @@ module _ {Num : Type 0} (lent : Lent Num) where
     pub within_budget : (budget room : ℕ) (world : World Num) → (playing lent budget room world).instants ≤ budget
     pub within_room : (budget room : ℕ) (world : World Num) → length (copies_in (playing lent budget room world).events) ≤ room
     pub ends : (budget room : ℕ) (world : World Num) → PlayEnds budget room world (playing lent budget room world)
+    -- how many copies an instant has is told before it opens, and it has one for each link at most
+    pub to_come : (world next : World Num) → opening lent world ≡ Ok next → length (copies_in (instant_gone lent world).events) ≡ copies_to_come lent world
+    pub few_copies : (world : World Num) → length (copies_in (instant_gone lent world).events) ≤ length (told_links lent.field)
 
   pub record CallLaws : Type 0 where
     -- what answers alone, changes nothing

@@ -1,8 +1,8 @@
 -- What play makes of where a run stands. Assumes nothing.
-use Rattle.std.specs.Prelude.{ℕ, zero, suc, ◌-◌, cond, List, [], ◌∷◌, ◌++◌, length, Some, None, Ok, Err, nat_lt}
+use Rattle.std.specs.Prelude.{ℕ, zero, suc, ◌-◌, cond, List, [], ◌∷◌, ◌++◌, length, is_some, Some, None, Ok, Err, nat_lt, count_by}
 use Rattle.field.specs.declared.Row.{Row}
-use Rattle.flood.specs.Copies.{outgoing_of}
-use Rattle.history.specs.Calls.{next_taken, opening, world_opened, world_closed}
+use Rattle.flood.specs.Copies.{outgoing_of, message_on}
+use Rattle.history.specs.Calls.{next_taken, opening, rows_opened, world_opened, world_closed}
 use Rattle.history.specs.Worlds.{Lent, World, told_links}
 use Rattle.history.specs.declared.taking.Ending.{Ending}
 use Rattle.history.specs.declared.taking.Ending.TheVariants.{BudgetSpent, LogShort, Refused}
@@ -65,6 +65,10 @@ module _ {Num : Type 0} (lent : Lent Num) where
       let opened = world_opened lent world in
       let gone = copies_taken (length (told_links lent.field)) opened in
       record { events = open_events world opened ++ gone.events; world = world_closed lent.field gone.world }
+
+  -- how many copies that instant has, by what is sent once it is open
+  abbrev pub copies_to_come : World Num → ℕ
+  copies_to_come world = count_by (λ link. is_some (message_on (rows_opened lent world) link)) (told_links lent.field)
 
   -- A log can be short only for an instant that open would grant: one that it would refuse has no copies.
   unfoldable pub tried : ℕ → World Num → Tried Num

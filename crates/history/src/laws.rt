@@ -20,7 +20,8 @@ pub fn floods_settle<N: Numbering>(numbering: &N, settings: Settings)
 {}
 
 // Rows keep their limits, and a check that has passed goes on to pass; counts are those of what happened; play is its calls one by
-// one, goes on as one, and ends for a reason; what only answers changes nothing, what happens is told, and what lies past n stays.
+// one, goes on as one, and ends for a reason, and an instant's copies are counted before it opens; what only answers changes nothing,
+// what happens is told, and what lies past n stays.
 #[tactic(auto, using(crate::proofs::Limits::limits_are_kept, crate::proofs::Limits::checks_stay, crate::proofs::Counted::counts_tell, crate::proofs::OneByOne::play_is_its_calls, crate::proofs::PlayLaws::play_laws, crate::proofs::PlayLaws::call_laws))]
 pub fn runs_keep_laws<N: Numbering>(numbering: &N, settings: Settings)
     ensures limits { OnEveryField (N.Numbering.meaning numbering.now) settings LimitsAreKept }
