@@ -1,3 +1,5 @@
+mod Bites
+mod CheckedExamples
 mod Checks
 mod Counted
 mod Floods

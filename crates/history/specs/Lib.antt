@@ -11,3 +11,5 @@ pub mod Counted
 pub mod PlayLaws
 pub mod Worked
 pub mod WorkedCalls
+pub mod Bites
+pub mod CheckedExamples

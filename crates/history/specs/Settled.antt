@@ -38,6 +38,16 @@ module _ {Num : Type 0} where
     LatestHeard to number =
         (k : ℕ) × (flood : Flood Num) × (k < to) × (flood_at floods k ≡ Some flood) × (heard_by sensor flood ≡ true) × (flood.number ≡ number) × PassUnheard (suc k) to
 
+    -- If among the first C no G in a row pass it unheard, then at their end, just before the next begins, it holds the number of the
+    -- latest that it heard.
+    abbrev pub HoldsLatest : ℕ → ℕ → Type 0
+    HoldsLatest G C = NoneMissed G C → (next : Flood Num) (row : Row Num) → flood_at floods C ≡ Some next → slice_get next.before sensor ≡ Some row → LatestHeard C row.held
+
+    -- In every flood after the first C it accepts the first copy that it hears and refuses the others, if no G in a row passed it unheard
+    -- from the first flood to the one before. Where a run stops within a flood, this is of its copies so far.
+    abbrev pub AcceptsAfter : ℕ → ℕ → Type 0
+    AcceptsAfter G C = (k : ℕ) (flood : Flood Num) → C ≤ k → flood_at floods k ≡ Some flood → NoneMissed G k → AcceptsFirst (verdicts_of sensor flood.copies)
+
 -- A sensor that is followed from the first of these floods on, under a patience G and a catch-up count C that keep the settling laws.
 pub record Followed {Num : Type 0} (m : Meaning Num) (n : ℕ) (floods : List (Flood Num)) (G : ℕ) (C : Num → Num → ℕ) (sensor : ℕ) : Type 0 where
   pub settles : Settles m G C
@@ -58,20 +68,10 @@ catch_up {C = C} followed = C followed.own.held followed.base.held
 pub record SettledFloods {Num : Type 0} (m : Meaning Num) (n : ℕ) (floods : List (Flood Num)) : Type 0 where
   -- (a) Each begins with no sensor marked, and all its copies carry its number.
   pub alone : (k : ℕ) (flood : Flood Num) → flood_at floods k ≡ Some flood → BeginsUnmarked n flood × CarryNumber flood.number flood.copies
-  -- (b) If among the first C no G in a row pass a sensor unheard, then at their end, just before the next begins, it holds the number
-  -- of the latest that it heard.
-  pub holds_latest :
-      (G : ℕ) (C : Num → Num → ℕ) (sensor : ℕ) (followed : Followed m n floods G C sensor)
-      → NoneMissed floods sensor G (catch_up followed)
-      → (next : Flood Num) (row : Row Num) → flood_at floods (catch_up followed) ≡ Some next → slice_get next.before sensor ≡ Some row
-      → LatestHeard floods sensor (catch_up followed) row.held
-  -- (c) In every flood after the first C a sensor accepts the first copy that it hears and refuses the others, if no G in a row passed
-  -- it unheard from the first flood to the one before. Where a run stops within a flood, this is of its copies so far.
-  pub accepts_first :
-      (G : ℕ) (C : Num → Num → ℕ) (sensor : ℕ) (followed : Followed m n floods G C sensor)
-      → (k : ℕ) (flood : Flood Num) → catch_up followed ≤ k → flood_at floods k ≡ Some flood
-      → NoneMissed floods sensor G k
-      → AcceptsFirst (verdicts_of sensor flood.copies)
+  -- (b) At the end of the first C a followed sensor holds the number of the latest that it heard.
+  pub holds_latest : (G : ℕ) (C : Num → Num → ℕ) (sensor : ℕ) (followed : Followed m n floods G C sensor) → HoldsLatest floods sensor G (catch_up followed)
+  -- (c) In every flood after the first C it accepts the first copy that it hears, and refuses the others.
+  pub accepts_first : (G : ℕ) (C : Num → Num → ℕ) (sensor : ℕ) (followed : Followed m n floods G C sensor) → AcceptsAfter floods sensor G (catch_up followed)
 
 -- In every run, of the floods since the last damage, those after the first settle.
 unfoldable pub FloodsSettle : {Num : Type 0} → Field Num → List (Row Num) → List ℕ → Type 0

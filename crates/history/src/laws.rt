@@ -1,6 +1,8 @@
 // What is true of every run, whatever is called in it. These calls do nothing: their contracts are the laws.
 ghost use Rattle.std.specs.Prelude.{◌≡◌};
 ghost use Rattle.air.specs.Delays.{KeepsPeriods};
+ghost use Rattle.history.specs.Bites.{SettlingBites};
+ghost use Rattle.history.specs.CheckedExamples.{CheckedExamples};
 ghost use Rattle.history.specs.Counted.{CountsTell};
 ghost use Rattle.history.specs.Limits.{ChecksStay, LimitsAreKept};
 ghost use Rattle.history.specs.OneByOne.{PlaysOneByOne};
@@ -38,4 +40,17 @@ pub fn worked_field()
     ensures worked { Worked }
     ensures not_vacuous { NotVacuous }
     ensures calls { WorkedCalls }
+{}
+
+// That floods settle is no empty promise: what it says of small runs, where sensors refuse copies until they have caught up, and that
+// it would be false with one less for the catch-up count or one more for the patience.
+#[tactic(auto, using(crate::proofs::Bites::settling_bites))]
+pub fn settling_bites()
+    ensures { SettlingBites }
+{}
+
+// What the rules come to in single cases.
+#[tactic(auto, using(crate::proofs::CheckedExamples::checked_examples))]
+pub fn checked_examples()
+    ensures { CheckedExamples }
 {}

@@ -4,5 +4,5 @@
 mod laws;
 mod taking;
 
-pub use laws::{floods_settle, runs_keep_laws, worked_field};
+pub use laws::{checked_examples, floods_settle, runs_keep_laws, settling_bites, worked_field};
 pub use taking::{Counts, Ending, TakenCopy};
