@@ -121,7 +121,7 @@ module _ {Num : Type 0} (lent : Lent Num) where
 -- One check at the beginning is enough.
 module _ {Num : Type 0} (lent : Lent Num) where
   -- what open comes to where the check has passed
-  pub opening_checked : (world : World Num) → checked lent.field Nothing Between world.rows world.senders ≡ Ok tt → opening lent world ≡ result_and (can_open lent world) (Ok (world_opened lent world))
+  pub opening_checked : (world : World Num) → checked lent.field Nothing Between world.rows world.senders ≡ Ok tt → opening lent world ≡ result_and (can_open lent.field world) (Ok (world_opened lent world))
   opening_checked world passed = rw passed refl
 
   module _ (lawful : KeepsLawful lent.field.numbering) (periods : KeepsPeriods lent.period) where
@@ -130,7 +130,7 @@ module _ {Num : Type 0} (lent : Lent Num) where
 
     -- in the instant that opens
     pub opened_passes :
-        (world : World Num) → world.position ≡ None → checked lent.field Nothing Between world.rows world.senders ≡ Ok tt → can_open lent world ≡ Ok tt
+        (world : World Num) → world.position ≡ None → checked lent.field Nothing Between world.rows world.senders ≡ Ok tt → can_open lent.field world ≡ Ok tt
         → checked lent.field Nothing Within (world_opened lent world).rows (world_opened lent world).senders ≡ Ok tt
     opened_passes world here passed can = stay.opens world (world_opened lent world) here (opening_checked world passed ∙ rw can refl)
 
