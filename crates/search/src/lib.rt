@@ -34,7 +34,12 @@ pub fn lowest<C: Case>(case: &C) -> Option<usize>
     ensures value { result ≡ lowest (C.Case.at case.now) (C.Case.count case.now) }
     ensures lowest { IsLowest (C.Case.at case.now) (C.Case.count case.now) result }
 {
-    (0..case.places()).find(|place| case.holds(*place))
+    for place in 0..case.places() {
+        if case.holds(place) {
+            return Some(place);
+        }
+    }
+    None
 }
 
 // Nothing where the case holds nowhere, and else the fault of the lowest place.
