@@ -76,7 +76,7 @@ module _ (floods : List (Flood ℕ)) where
 settle_floods : (run : Run) → KeepsLawful run.numbering → begun (lent run).field (rows run) senders ≡ Ok (start run) → SettledFloods run.numbering 3 (floods run)
 unfolding FloodsSettle floods
 settle_floods run lawful begins =
-    floods_settle (lent run).field lawful (rows run) senders slowest_period (lent run).carries slowest_keeps (start run) begins (Play run.instants 100 ∷ [])
+    floods_settle (lent run).field lawful (rows run) senders (start run) begins slowest_period (lent run).carries slowest_keeps (Play run.instants 100 ∷ [])
 
 -- what the theorem says of a run, of what this comes to by computation at place 0 and at place C, which is k
 bites :

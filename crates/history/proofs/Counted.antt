@@ -11,7 +11,7 @@ use Rattle.vetting.specs.declared.Named.TheVariants.{Nothing}
 use Rattle.history.specs.Checks.{checked, checked_first}
 use Rattle.history.specs.Counted.{opens, begins, takes, Counted, CountsTell}
 use Rattle.history.specs.Floods.{through, hears, accepts, refuses}
-use Rattle.history.specs.Histories.{history}
+use Rattle.history.specs.Histories.{history, OnceBegun}
 use Rattle.history.specs.Plays.{Event, open_events}
 use Rattle.history.specs.Plays.Event.{Damages, Opens, Begins, Takes}
 use Rattle.history.specs.Worlds.{Field, Lent, World}
@@ -81,9 +81,9 @@ module _ {Num : Type 0} where
   }
 
   -- Whatever calls there are after a granted begin, the counts are those of what happened.
-  pub counts_tell : (field : Field Num) (rows : List (Row Num)) (senders : List ℕ) → CountsTell field rows senders
+  pub counts_tell : (field : Field Num) → OnceBegun field CountsTell
   unfolding CountsTell Tallied
-  counts_tell field rows senders period carries periods start e calls =
+  counts_tell field rows senders start e period carries periods calls =
       let lent : Lent Num = record { field = field; period = period; carries = carries } in
       let begins : start.counts ≡ none_yet = ap (λ (w : World Num). w.counts) (sym (ok_is _ start (granted_ok (checked_first field rows senders) _ start e))) in
       let went = history lent calls start in

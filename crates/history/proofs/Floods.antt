@@ -9,7 +9,7 @@ use Rattle.field.specs.declared.Settings.{Settings}
 use Rattle.flood.specs.Instants.{row_opened}
 use Rattle.history.specs.Calls.{AfterCopy, comes_through, world_opened, no_number, world_closed, next_taken, copy_taken}
 use Rattle.history.specs.Floods.{Flood, through, noted, joined, floods_told, without_first, flood_at}
-use Rattle.history.specs.Histories.{Call, history}
+use Rattle.history.specs.Histories.{Call, history, OnceBegun}
 use Rattle.history.specs.Limits.{LinksKeep, InLimits}
 use Rattle.history.specs.Plays.{open_events}
 use Rattle.history.specs.Plays.Event.{Opens, Begins}
@@ -211,9 +211,9 @@ module _ {Num : Type 0} (lent : Lent Num) (lawful : KeepsLawful lent.field.numbe
   unfolding Tells RowsTell FloodsTell
   history_tells world limits calls = (kept lent noted Tells tells_kept calls world [] (limits, (tt, tt))).1.1
 
-pub floods_settle : {Num : Type 0} (field : Field Num) → KeepsLawful field.numbering → (rows : List (Row Num)) (senders : List ℕ) → FloodsSettle field rows senders
+pub floods_settle : {Num : Type 0} (field : Field Num) → KeepsLawful field.numbering → OnceBegun field FloodsSettle
 unfolding FloodsSettle
-floods_settle field lawful rows senders period carries periods world e calls =
+floods_settle field lawful rows senders world e period carries periods calls =
     let lent : Lent _ = record { field = field; period = period; carries = carries } in
     told_settle field lawful (floods_told (history lent calls world).events)
     (history_tells lent lawful periods (links_kept field rows senders world e) world (begun_in_limits field rows senders world e) calls)

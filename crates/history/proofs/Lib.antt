@@ -1,13 +1,13 @@
 mod Bites
 mod CheckedExamples
-mod Checks
-mod Counted
-mod Floods
+pub mod Checks
+pub mod Counted
+pub mod Floods
 mod Keeping
-mod Kept
-mod Limits
+pub mod Kept
+pub mod Limits
 pub mod NextCopies
-mod OneByOne
+pub mod OneByOne
 mod Paces
 mod Places
 pub mod PlayLaws

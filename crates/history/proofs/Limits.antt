@@ -18,7 +18,7 @@ use Rattle.numbering.specs.Meaning.{Meaning, KeepsLawful}
 use Rattle.history.specs.Calls.{AfterCopy, copy_left, copy_over, none_yet, begun, opening, world_opened, rows_opened, damaging, world_damaged, damaged_row, world_closed, next_taken, copy_taken, comes_through}
 use Rattle.history.specs.Checks.{checked_first}
 use Rattle.vetting.specs.declared.Named.TheVariants.{Nothing}
-use Rattle.history.specs.Histories.{Call, history}
+use Rattle.history.specs.Histories.{Call, history, OnceBegun}
 use Rattle.history.specs.Limits.{stage_of, LinksKeep, InLimits, LimitsAreKept, ChecksStay}
 use Rattle.history.specs.Plays.{copies_taken, instant_gone}
 use Rattle.history.specs.Worlds.{Field, Lent, World, told_links}
@@ -226,9 +226,9 @@ module _ {Num : Type 0} (lent : Lent Num) (links : LinksKeep lent.field) (world 
       by None = refl
       by (Some position) = next_is position (next_copy world.rows (told_links lent.field) position) refl
 
-pub limits_are_kept : {Num : Type 0} (field : Field Num) → KeepsLawful field.numbering → (rows : List (Row Num)) (senders : List ℕ) → LimitsAreKept field rows senders
+pub limits_are_kept : {Num : Type 0} (field : Field Num) → KeepsLawful field.numbering → OnceBegun field LimitsAreKept
 unfolding LimitsAreKept
-limits_are_kept {Num} field lawful rows senders period carries periods start e calls =
+limits_are_kept {Num} field lawful rows senders start e period carries periods calls =
     let lent : Lent Num = record { field = field; period = period; carries = carries } in
     let links = links_kept field rows senders start e in
     let limits = history_in_limits lent lawful periods links calls start (begun_in_limits field rows senders start e) in

@@ -6,7 +6,7 @@ use Rattle.air.specs.Delays.{KeepsPeriods}
 use Rattle.field.specs.declared.Row.{Row}
 use Rattle.numbering.specs.Meaning.{KeepsLawful}
 use Rattle.history.specs.Calls.{AfterCopy, opening, world_opened, next_taken, world_closed}
-use Rattle.history.specs.Histories.{Call, Outcome, called_between, called_within, called, history, moves_on}
+use Rattle.history.specs.Histories.{Call, Outcome, called_between, called_within, called, history, moves_on, OnceBegun}
 use Rattle.history.specs.Histories.Call.{Open, Carry, Close}
 use Rattle.history.specs.Histories.Answer.{Granted, Copied}
 use Rattle.history.specs.Limits.{LinksKeep, InLimits}
@@ -110,10 +110,9 @@ module _
       subst (λ (g : Went Num). OneByOne lent g.world rest.events rest.world → OneByOne lent world (g.events ++ rest.events) rest.world) done.1 (instant_first world done.0.next limits here done.0.opens rest.events rest.world) go_on)
 
 pub play_is_its_calls :
-    {Num : Type 0} (field : Field Num) → KeepsLawful field.numbering
-    → (rows : List (Row Num)) (senders : List ℕ) → PlaysOneByOne field rows senders
+    {Num : Type 0} (field : Field Num) → KeepsLawful field.numbering → OnceBegun field PlaysOneByOne
 unfolding PlaysOneByOne
-play_is_its_calls {Num} field lawful rows senders period carries periods world e calls budget room =
+play_is_its_calls {Num} field lawful rows senders world e period carries periods calls budget room =
     let lent : Lent Num = record { field = field; period = period; carries = carries } in
     let links = links_kept field rows senders world e in
     let limits = history_in_limits lent lawful periods links calls world (begun_in_limits field rows senders world e) in

@@ -7,7 +7,7 @@ use Rattle.history.specs.Floods.{hears, accepts, refuses}
 use Rattle.history.specs.Histories.{InEveryRun}
 use Rattle.history.specs.Plays.{Event}
 use Rattle.history.specs.Plays.Event.{Damages, Opens, Begins, Takes}
-use Rattle.history.specs.Worlds.{Field}
+use Rattle.history.specs.Worlds.{Field, World}
 use Rattle.history.specs.declared.taking.Counts.{Counts}
 
 module _ {Num : Type 0} where
@@ -43,7 +43,7 @@ module _ {Num : Type 0} where
     pub each_once : counts.copies ≡ counts.lost + counts.refused + counts.accepted
 
 -- In every run its counts are those of what has happened in it, and so are those that finish answers.
-unfoldable pub CountsTell : {Num : Type 0} → Field Num → List (Row Num) → List ℕ → Type 0
-CountsTell field rows senders =
-    InEveryRun field rows senders (λ lent went.
+unfoldable pub CountsTell : {Num : Type 0} → Field Num → World Num → Type 0
+CountsTell field start =
+    InEveryRun field start (λ lent went.
     Counted went.world.counts went.events × ((counts : Counts) → finishing lent.field went.world ≡ Ok counts → Counted counts went.events))

@@ -97,10 +97,12 @@ module _ {Num : Type 0} (lent : Lent Num) where
       let rest = history calls first.world in
       record { answers = first.answer ∷ rest.answers; events = first.events ++ rest.events; world = rest.world }
 
--- So it is of whatever becomes of a run: for all that begin grants, every delay rule that keeps its law, every air, and every list of calls.
-abbrev pub InEveryRun : {Num : Type 0} → Field Num → List (Row Num) → List ℕ → (Lent Num → History Num → Type 0) → Type 0
-InEveryRun {Num} field rows senders Holds =
-    (period : ℕ → ℕ → ℕ → ℕ) (carries : Carrying) → KeepsPeriods period
-    → (start : World Num) → begun field rows senders ≡ Ok start
-    → (calls : List (Call Num))
+-- So it is of whatever becomes of a run from where it stands: with every delay rule that keeps its law, every air, and every list of calls.
+abbrev pub InEveryRun : {Num : Type 0} → Field Num → World Num → (Lent Num → History Num → Type 0) → Type 0
+InEveryRun {Num} field start Holds =
+    (period : ℕ → ℕ → ℕ → ℕ) (carries : Carrying) → KeepsPeriods period → (calls : List (Call Num))
     → let lent : Lent Num = record { field = field; period = period; carries = carries } in Holds lent (history lent calls start)
+
+-- a law of a field and of where a run of it stands, wherever begin grants one
+abbrev pub OnceBegun : {Num : Type 0} → Field Num → (Field Num → World Num → Type 0) → Type 0
+OnceBegun {Num} field Law = (rows : List (Row Num)) (senders : List ℕ) (start : World Num) → begun field rows senders ≡ Ok start → Law field start

@@ -42,8 +42,8 @@ Fits field named = let seen = seen_at field named Between [] [] in (k : ℕ) →
 
 -- In every run rows and bytes keep their limits, so that each call that fits passes its check, whatever came before; and an instant
 -- that opens ends with every row within its limits.
-unfoldable pub LimitsAreKept : {Num : Type 0} → Field Num → List (Row Num) → List ℕ → Type 0
-LimitsAreKept {Num} field rows senders = InEveryRun field rows senders (λ lent went.
+unfoldable pub LimitsAreKept : {Num : Type 0} → Field Num → World Num → Type 0
+LimitsAreKept {Num} field start = InEveryRun field start (λ lent went.
     LinksKeep field
     × InLimits field went.world
     × ((named : Named Num) → Fits field named → checked field named (stage_of went.world.position) went.world.rows went.world.senders ≡ Ok tt)

@@ -36,8 +36,8 @@ pub record OneByOne {Num : Type 0} (lent : Lent Num) (world : World Num) (events
   pub leads : (history lent calls world).world ≡ after
 
 -- In every run, where it stands between instants, play is its calls one by one.
-unfoldable pub PlaysOneByOne : {Num : Type 0} → Field Num → List (Row Num) → List ℕ → Type 0
-PlaysOneByOne field rows senders =
-    InEveryRun field rows senders (λ lent went.
+unfoldable pub PlaysOneByOne : {Num : Type 0} → Field Num → World Num → Type 0
+PlaysOneByOne field start =
+    InEveryRun field start (λ lent went.
     (budget room : ℕ) → went.world.position ≡ None
     → let played = playing lent budget room went.world in OneByOne lent went.world played.events played.world)

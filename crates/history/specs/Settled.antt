@@ -4,7 +4,7 @@ use Rattle.field.specs.declared.Row.{Row}
 use Rattle.flood.specs.declared.hearing.Verdict.{Verdict}
 use Rattle.history.specs.Floods.{Flood, accepts, refuses, floods_told, without_first, flood_at, verdicts_of, heard_by}
 use Rattle.history.specs.Histories.{InEveryRun}
-use Rattle.history.specs.Worlds.{Field}
+use Rattle.history.specs.Worlds.{Field, World}
 use Rattle.history.specs.declared.taking.TakenCopy.{TakenCopy}
 use Rattle.numbering.specs.Meaning.{Meaning, Settles}
 
@@ -74,5 +74,5 @@ pub record SettledFloods {Num : Type 0} (m : Meaning Num) (n : ℕ) (floods : Li
   pub accepts_first : (G : ℕ) (C : Num → Num → ℕ) (sensor : ℕ) (followed : Followed m n floods G C sensor) → AcceptsAfter floods sensor G (catch_up followed)
 
 -- In every run, of the floods since the last damage, those after the first settle.
-unfoldable pub FloodsSettle : {Num : Type 0} → Field Num → List (Row Num) → List ℕ → Type 0
-FloodsSettle field rows senders = InEveryRun field rows senders (λ lent went. SettledFloods field.numbering field.settings.n (without_first (floods_told went.events)))
+unfoldable pub FloodsSettle : {Num : Type 0} → Field Num → World Num → Type 0
+FloodsSettle field start = InEveryRun field start (λ lent went. SettledFloods field.numbering field.settings.n (without_first (floods_told went.events)))

@@ -17,10 +17,6 @@ pub record Field (Num : Type 0) : Type 0 where
 abbrev pub field_of : {Num : Type 0} → Meaning Num → Settings → List Link → ℕ → Field Num
 field_of numbering settings links count = record { numbering = numbering; settings = settings; links = links; count = count }
 
--- so it is whatever links, told count, rows and sender bytes are lent
-abbrev pub OnEveryField : {Num : Type 0} → Meaning Num → Settings → (Field Num → List (Row Num) → List ℕ → Type 0) → Type 0
-OnEveryField {Num} numbering settings Law = (links : List Link) (count : ℕ) (rows : List (Row Num)) (senders : List ℕ) → Law (field_of numbering settings links count) rows senders
-
 -- What lies past the told count is not looked at.
 abbrev pub told_links : {Num : Type 0} → Field Num → List Link
 told_links field = take field.count field.links

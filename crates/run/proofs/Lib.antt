@@ -1,2 +1,3 @@
+pub mod Began
 mod Onward
 mod Taking

@@ -1,5 +1,7 @@
 -- What a call answers, and where the run stands then, by what its definition gives. Assumes nothing.
-use Rattle.std.specs.Prelude.{ℕ, suc, Some, None, Ok, Err, Option, Result}
+use Rattle.std.specs.Prelude.{ℕ, suc, List, Some, None, Ok, Err, Option, Result}
+use Rattle.std.specs.Result.{result_map_both}
+use Rattle.field.specs.declared.Row.{Row}
 use Rattle.history.specs.Calls.{AfterCopy}
 use Rattle.history.specs.Worlds.{World}
 use Rattle.history.specs.declared.TakenCopy.{TakenCopy}
@@ -33,11 +35,25 @@ module _ {Num : Type 0} where
   onward place None = place
   onward place (Some copy) = suc place
 
+-- What begin answers, and what rows and bytes hold then.
+pub record Beginning (Num : Type 0) : Type 0 where
+  pub answer : Result (World Num) RunFault
+  pub rows : List (Row Num)
+  pub senders : List ℕ
+
+-- a run that begins stands where its definition says, and a refusal alters neither rows nor bytes
+abbrev pub began : {Num : Type 0} → List (Row Num) → List ℕ → Result (World Num) RunFault → Beginning Num
+began rows senders (Ok world) = record { answer = Ok world; rows = world.rows; senders = world.senders }
+began rows senders (Err fault) = record { answer = Err fault; rows = rows; senders = senders }
+
 module _ {N D A Num : Type 0} (lent : Lent N D A Num) where
   -- what the code's own answers say
   abbrev pub opened_as : Result Instant (Declined Idle) → Answered Num (Unit {0})
   opened_as (Ok run) = answered (Ok tt) (within run lent)
   opened_as (Err declined) = answered (Err declined.fault) (between declined.run lent)
+
+  abbrev pub begun_as : Result Idle RunFault → Beginning Num
+  begun_as result = record { answer = result_map_both (λ run. between run lent) (λ fault. fault) result; rows = lent.rows.now; senders = lent.senders.now }
 
   abbrev pub closed_as : Result Idle (Declined Instant) → Answered Num (Unit {0})
   closed_as (Ok run) = answered (Ok tt) (between run lent)

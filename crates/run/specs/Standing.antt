@@ -2,6 +2,7 @@
 use Rattle.std.specs.Prelude.{◌≡◌, ℕ, List, Some, None, Option}
 use Rattle.air.specs.Airs.{Carrying}
 use Rattle.field.specs.declared.Row.{Row}
+use Rattle.field.specs.declared.Settings.{Settings}
 use Rattle.history.specs.Worlds.{Field, Lent as Given, World}
 use Rattle.history.specs.declared.Counts.{Counts}
 use Rattle.numbering.specs.Meaning.{Meaning}
@@ -33,9 +34,13 @@ module _ {N D A Num : Type 0} where
   abbrev pub within : Instant → Lent N D A Num → World Num
   within run = stands run.progress (Some run.position)
 
-  -- what a call is given: the field that is played, by the meaning of the numbering; and with it the delay rule and the air
+  -- the field that is played, by the meaning of the numbering, the settings and the told count
+  abbrev pub field_told : (N → Meaning Num) → Settings → ℕ → Lent N D A Num → Field Num
+  field_told meaning settings count lent = record { numbering = meaning lent.numbering.now; settings = settings; links = lent.links.now; count = count }
+
+  -- what a call is given: the field by the settings and the count that the run holds; and with it the delay rule and the air
   abbrev pub field_given : (N → Meaning Num) → Progress → Lent N D A Num → Field Num
-  field_given meaning p lent = record { numbering = meaning lent.numbering.now; settings = p.settings; links = lent.links.now; count = p.count }
+  field_given meaning p lent = field_told meaning p.settings p.count lent
 
   abbrev pub given : (N → Meaning Num) → (D → ℕ → ℕ → ℕ → ℕ) → (A → Carrying) → Progress → Lent N D A Num → Given Num
   given meaning period carries p lent = record {

@@ -1,27 +1,72 @@
 // What every call looks for before all else.
 ghost use Rattle.std.specs.Prelude.{◌≡◌};
 ghost use Rattle.history.specs.Calls.{can_open, may_close, may_open};
-ghost use Rattle.history.specs.Checks.{checked, short_case};
-ghost use Rattle.run.specs.Standing.{field_given, stands};
+ghost use Rattle.history.specs.Checks.{checked, checked_first, short_case};
+ghost use Rattle.run.specs.Standing.{field_given, field_told, stands};
 
 use crate::lending::{Lent, front};
 use crate::states::Progress;
-use field::{Rules, Stage};
+use field::{Rules, Settings, Stage};
 use flood::{next_copy, open_base};
 use numbering::Numbering;
 use refusal::RunFault;
 use vetting::{InMemory, MemoryCase, Named};
 
+// Is a buffer shorter than the field?
+fn room<N: Numbering, D, A>(
+    settings: Settings,
+    count: usize,
+    lent: &Lent<N, D, A>,
+) -> Result<(), RunFault>
+    ensures { result ≡ short_case (field_told N.Numbering.meaning settings count lent.now) lent.now.rows.now lent.now.senders.now }
+{
+    let n = usize::from(settings.n);
+    if lent.rows.len() < n || lent.senders.len() < n || lent.links.len() < count {
+        return Err(RunFault::ShortBuffer);
+    }
+    Ok(())
+}
+
+// What begin looks for; the told count may be any.
+#[tactic(auto, unfolding(history::specs::Checks::checked_first))]
+pub fn check_first<N: Numbering, D, A>(
+    settings: Settings,
+    count: usize,
+    lent: &Lent<N, D, A>,
+) -> Result<(), RunFault>
+    ensures { result ≡ checked_first (field_told N.Numbering.meaning settings count lent.now) lent.now.rows.now lent.now.senders.now }
+{
+    let memory = InMemory {
+        rules: Rules {
+            numbering: lent.numbering,
+            settings,
+        },
+        stage: Stage::Beginning,
+        rows: &*lent.rows,
+        senders: &[],
+        links: front(lent.links, count),
+        count,
+        losses: &[],
+        named: Named::Nothing,
+    };
+    memory.first_fault(&[
+        MemoryCase::Sensors,
+        MemoryCase::Links { repeats: true },
+        MemoryCase::Count,
+        MemoryCase::Rows,
+    ])?;
+    room(settings, count, lent)
+}
+
 impl Progress {
-    // Is a buffer shorter than the field?
-    fn room<N: Numbering, D, A>(&self, lent: &Lent<N, D, A>) -> Result<(), RunFault>
-        ensures { result ≡ short_case (field_given N.Numbering.meaning self.now lent.now) lent.now.rows.now lent.now.senders.now }
+    pub fn rules<'n, N: Numbering, D, A>(&self, lent: &Lent<'n, '_, '_, '_, '_, '_, N, D, A>) -> Rules<'n, N>
+        ensures numbering { result.numbering ≡ lent.now.numbering }
+        ensures settings { result.settings ≡ self.now.settings }
     {
-        let n = usize::from(self.settings.n);
-        if lent.rows.len() < n || lent.senders.len() < n || lent.links.len() < self.count {
-            return Err(RunFault::ShortBuffer);
+        Rules {
+            numbering: lent.numbering,
+            settings: self.settings,
         }
-        Ok(())
     }
 
     // The check of every call, at the stage at which the run stands.
@@ -49,17 +94,7 @@ impl Progress {
             MemoryCase::Links { repeats: false },
             MemoryCase::Rows,
         ])?;
-        self.room(lent)
-    }
-
-    pub fn rules<'n, N: Numbering, D, A>(&self, lent: &Lent<'n, '_, '_, '_, '_, '_, N, D, A>) -> Rules<'n, N>
-        ensures numbering { result.numbering ≡ lent.now.numbering }
-        ensures settings { result.settings ≡ self.now.settings }
-    {
-        Rules {
-            numbering: lent.numbering,
-            settings: self.settings,
-        }
+        room(self.settings, self.count, lent)
     }
 
     // Can the next instant open: is there one more, and does the base find a number if it is to send?

@@ -1,6 +1,7 @@
 // The calls of a run: each answers exactly its definition, or declines and changes nothing.
 #![tactic(auto)]
 
+mod begin;
 mod between;
 mod checks;
 mod instants;

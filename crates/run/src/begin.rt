@@ -1,0 +1,42 @@
+// How a run begins, and what is true of it from there on.
+ghost use Rattle.std.specs.Prelude.{◌≡◌, IfOk};
+ghost use Rattle.history.specs.Calls.{begun};
+ghost use Rattle.run.specs.Answers.{began, begun_as};
+ghost use Rattle.run.specs.Standing.{SameLoans, between, field_told};
+
+use crate::checks::check_first;
+use crate::lending::Lent;
+use crate::states::{Idle, Progress};
+use field::Settings;
+use flood::{close_rows, silence};
+use numbering::Numbering;
+use refusal::RunFault;
+
+impl Idle {
+    /// Begins a run of a field with these settings, of which the first `count` links are told.
+    #[tactic(auto, using(crate::proofs::Began::few_told))]
+    pub fn begin<N: Numbering, D, A>(
+        settings: Settings,
+        count: usize,
+        lent: &mut Lent<N, D, A>,
+    ) -> Result<Idle, RunFault>
+        ensures value { begun_as lent.new result ≡ began lent.old.rows.now lent.old.senders.now (begun (field_told N.Numbering.meaning settings count lent.old) lent.old.rows.now lent.old.senders.now) }
+        ensures lent { SameLoans lent.old lent.new }
+    {
+        check_first(settings, count, lent)?;
+        close_rows(settings.n, &mut *lent.rows);
+        silence(settings.n, &mut *lent.senders);
+        Ok(Idle {
+            progress: Progress {
+                settings,
+                count,
+                instant: 0,
+                floods: 0,
+                copies: 0,
+                lost: 0,
+                refused: 0,
+                accepted: 0,
+            },
+        })
+    }
+}
