@@ -19,5 +19,6 @@ mod Tales
 mod TalesSettle
 mod ToCome
 mod Told
+pub mod Unread
 mod Worked
 mod WorkedCalls

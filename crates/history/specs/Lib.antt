@@ -9,5 +9,6 @@ pub mod Limits
 pub mod OneByOne
 pub mod Counted
 pub mod PlayLaws
+pub mod Unread
 pub mod Worked
 pub mod WorkedCalls
