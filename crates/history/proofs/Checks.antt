@@ -21,7 +21,7 @@ use Rattle.vetting.specs.declared.MemoryCase.TheVariants.{Sensors, Links, Count,
 use Rattle.history.specs.Calls.{may_open, begun, no_number, world_opened, opening, damaged_row, world_damaged, damaging}
 use Rattle.history.specs.Checks.{checked, checked_first, seen_at, short_case}
 use Rattle.vetting.specs.declared.Named.{Named}
-use Rattle.vetting.specs.declared.Named.TheVariants.{Nothing, Damaged}
+use Rattle.vetting.specs.declared.Named.TheVariants.{Nothing, Sensor, Damaged}
 use Rattle.history.specs.Limits.{stage_of, LinksKeep, InLimits, Fits}
 use Rattle.history.specs.Worlds.{Field, Lent, World, told_links}
 use Rattle.history.proofs.Kept.{granted_ok, granted_first, opening_is, damaging_is}
@@ -33,6 +33,10 @@ none_of {A} test items k fails = by (slice_get items k) refl
     by : (o : Option A) → slice_get items k ≡ o → elim o [ None ↦ false | Some x ↦ test x ] ≡ false
     by None there = refl
     by (Some x) there = fails x there
+
+-- what a test says of a place, where it is asked of that place alone
+itself : (k : ℕ) (b : Bool) → k == k && b ≡ false → b ≡ false
+itself k b e = rw (eq-eqb k k refl) at e
 
 -- a call that names nothing fits
 pub names_nothing : {Num : Type 0} (field : Field Num) → Fits field Nothing
@@ -126,7 +130,13 @@ module _ {Num : Type 0} (field : Field Num) where
     rows_right : (k : ℕ) → k < field.settings.n → bad_row at_call k ≡ false
     rows_right = case_nowhere at_call Rows (first_passes (fault_in at_call Rows) _ check_passed.rest)
 
-  -- a check that passes says that the run is within its limits
+  -- a check that passes says that the sensor that is looked at is there
+  pub sensor_within : (sensor : ℕ) (stage : Stage) (world : World Num) → checked field (Sensor sensor) stage world.rows world.senders ≡ Ok tt → sensor < field.settings.n
+  sensor_within sensor stage world passes =
+      let ends = (check_passed (Sensor sensor) stage world passes).ends sensor (omega arith) in
+      ltb-true _ _ (not-false _ (itself sensor _ (or_parts _ _ ends).1))
+
+  -- and that the run is within its limits
   pub check_gives :
       (named : Named Num) (world : World Num) (position : Option ℕ) → world.position ≡ position → checked field named (stage_of position) world.rows world.senders ≡ Ok tt
       → LinksKeep field × InLimits field world
@@ -185,6 +195,3 @@ module _ {Num : Type 0} (lent : Lent Num) (world next : World Num) where
       let here = rows_right field (Damaged damage) Between world passes damage.sensor within in
       let right = and_parts _ _ (not-false _ (itself damage.sensor _ (or_parts _ _ (or_parts _ _ here).1).1)) in
       (sym (damaging_is lent damage world next e), within, and_from _ _ right.0 (and_from _ _ right.1 refl))
-    where
-      itself : (k : ℕ) (b : Bool) → k == k && b ≡ false → b ≡ false
-      itself k b e = rw (eq-eqb k k refl) at e

@@ -21,5 +21,6 @@ mod Tales
 mod TalesSettle
 mod ToCome
 mod Told
+pub mod Unread
 mod Worked
 mod WorkedCalls

@@ -9,6 +9,7 @@ pub mod Limits
 pub mod OneByOne
 pub mod Counted
 pub mod PlayLaws
+pub mod Unread
 pub mod Worked
 pub mod WorkedCalls
 pub mod Bites
