@@ -150,10 +150,10 @@ module _ {Num : Type 0} (lent : Lent Num) where
       changed_alike _ _ 0 n (take n world.senders) (λ k byte h. ap byte_of (get_same n (0 + k) rows (omega arith))) ∙ changed_first _ 0 n n world.senders in
       rw (rows_opened_same world, bytes, sends_same rows 0 (omega arith)) refl
 
-  no_number_same : (world : World Num) → no_number told (first world) ≡ no_number lent world
+  no_number_same : (world : World Num) → no_number told.field (first world) ≡ no_number lent.field world
   no_number_same world = rw (get_same n 0 world.rows (omega arith), no_number) refl
 
-  may_open_same : (world : World Num) → may_open told (first world) ≡ may_open lent world
+  may_open_same : (world : World Num) → may_open told.field (first world) ≡ may_open lent.field world
   may_open_same world = rw (check_same Nothing Between world.rows world.senders, no_number_same world) refl
 
   abbrev granted_first : Result (World Num) RunFault → Result (World Num) RunFault
@@ -164,7 +164,7 @@ module _ {Num : Type 0} (lent : Lent Num) where
   and_granted (Err fault) world = refl
 
   opening_same : (world : World Num) → opening told (first world) ≡ granted_first (opening lent world)
-  opening_same world = rw (may_open_same world, world_opened_same world) (and_granted (may_open lent world) (world_opened lent world))
+  opening_same world = rw (may_open_same world, world_opened_same world) (and_granted (may_open lent.field world) (world_opened lent world))
 
   -- a row that is set
   damaging_same : (damage : Damage Num) (world : World Num) → damaging told.field damage (first world) ≡ granted_first (damaging lent.field damage world)

@@ -1,5 +1,5 @@
 -- What is known once begin's check has passed. Assumes nothing.
-use Rattle.std.proofs.Common.{◌≡◌, ℕ, ◌≤◌, true, List, Ok, ap, is_ok, arith}
+use Rattle.std.proofs.Common.{◌≡◌, ℕ, ◌≤◌, true, List, Ok, Err, Result, sym, refl, ap, is_ok, arith}
 use Rattle.std.proofs.lemmas.Bool.{or_parts, ltb-false}
 use Rattle.checking.proofs.Passes.{first_passes, second_passes, in_field_passes}
 use Rattle.field.specs.declared.Row.{Row}
@@ -11,7 +11,19 @@ use Rattle.vetting.specs.Cases.{fault_in, first_fault}
 use Rattle.vetting.specs.declared.MemoryCase.TheVariants.{Sensors, Links, Count, Rows}
 use Rattle.vetting.specs.declared.Named.TheVariants.{Nothing}
 use Rattle.history.specs.Checks.{checked_first, of_beginnings, seen_at}
-use Rattle.history.specs.Worlds.{Field}
+use Rattle.history.specs.Calls.{begun}
+use Rattle.history.specs.Settled.{FloodsSettle}
+use Rattle.history.specs.Worlds.{Field, Lent, World}
+use Rattle.history.proofs.Counted.{counts_tell}
+use Rattle.history.proofs.Floods.{floods_settle}
+use Rattle.history.proofs.Limits.{checks_stay, limits_are_kept}
+use Rattle.history.proofs.OneByOne.{play_is_its_calls}
+use Rattle.history.proofs.PlayLaws.{call_laws, play_laws}
+use Rattle.history.proofs.Unread.{not_read}
+use Rattle.numbering.specs.Meaning.{KeepsLawful}
+use Rattle.refusal.specs.declared.RunFault.{RunFault}
+use Rattle.run.specs.Answers.{Beginning as BeginAnswer, began}
+use Rattle.run.specs.Laws.{RunLaws}
 
 -- no more links are told than a field may have
 pub few_told : {Num : Type 0} (field : Field Num) (rows : List (Row Num)) (senders : List ℕ) → checked_first field rows senders ≡ Ok tt → field.count ≤ 1024
@@ -24,3 +36,26 @@ few_told field rows senders passes =
     let after_links = second_passes (fault_in seen (Links true)) _ after_ends in
     let few = case_nowhere seen Count (first_passes (fault_in seen Count) _ after_links) 1024 (omega arith) in
     ltb-false 1024 field.count (or_parts _ _ few).0
+
+-- where begin answers a run, its definition grants one
+pub began_from :
+    {Num : Type 0} (rows : List (Row Num)) (senders : List ℕ) (o : Result (World Num) RunFault) (world : World Num) (new_rows : List (Row Num)) (new_senders : List ℕ)
+    → ◌≡◌ {A = BeginAnswer Num} (record { answer = Ok world; rows = new_rows; senders = new_senders }) (began rows senders o) → o ≡ Ok world
+began_from rows senders (Ok other) world new_rows new_senders e = ap (λ b. b.answer) (sym e)
+began_from rows senders (Err fault) world new_rows new_senders e = let f = ap (λ b. b.answer) e in absurd cc
+
+module _
+    {Num : Type 0} (field : Field Num) (lawful : KeepsLawful field.numbering) (rows : List (Row Num)) (senders : List ℕ) (start : World Num)
+    (begins : begun field rows senders ≡ Ok start) where
+  pub begun_settles : FloodsSettle field start
+  begun_settles = floods_settle field lawful rows senders start begins
+
+  pub begun_keeps_laws : RunLaws field start
+  begun_keeps_laws = record {
+    limits = limits_are_kept field lawful rows senders start begins;
+    counts = counts_tell field rows senders start begins;
+    one_by_one = play_is_its_calls field lawful rows senders start begins;
+    calls = λ period carries periods.
+        let lent : Lent Num = record { field = field; period = period; carries = carries } in
+        record { checks = checks_stay field.numbering lawful lent refl periods; plays = play_laws lent; answers = call_laws lent; unread = not_read lent };
+  }

@@ -1,6 +1,8 @@
 // How a run begins, and what is true of it from there on.
 ghost use Rattle.std.specs.Prelude.{◌≡◌, IfOk};
 ghost use Rattle.history.specs.Calls.{begun};
+ghost use Rattle.history.specs.Settled.{FloodsSettle};
+ghost use Rattle.run.specs.Laws.{RunLaws};
 ghost use Rattle.run.specs.Answers.{began, begun_as};
 ghost use Rattle.run.specs.Standing.{SameLoans, between, field_told};
 
@@ -13,7 +15,8 @@ use numbering::Numbering;
 use refusal::RunFault;
 
 impl Idle {
-    /// Begins a run of a field with these settings, of which the first `count` links are told.
+    /// Begins a run of a field with these settings, of which the first `count` links are told. From there on floods settle,
+    /// whatever calls follow, with whatever delay rule and air (`settles`), and the other laws of runs hold.
     #[tactic(auto, using(crate::proofs::Began::few_told))]
     pub fn begin<N: Numbering, D, A>(
         settings: Settings,
@@ -22,6 +25,8 @@ impl Idle {
     ) -> Result<Idle, RunFault>
         ensures value { begun_as lent.new result ≡ began lent.old.rows.now lent.old.senders.now (begun (field_told N.Numbering.meaning settings count lent.old) lent.old.rows.now lent.old.senders.now) }
         ensures lent { SameLoans lent.old lent.new }
+        ensures settles { IfOk result (λ run. FloodsSettle (field_told N.Numbering.meaning settings count lent.old) (between run lent.new)) }
+        ensures laws { IfOk result (λ run. RunLaws (field_told N.Numbering.meaning settings count lent.old) (between run lent.new)) }
     {
         check_first(settings, count, lent)?;
         close_rows(settings.n, &mut *lent.rows);
