@@ -1,6 +1,7 @@
 mod Bites
 mod CheckedExamples
 mod Checks
+mod Computing
 mod Counted
 mod Floods
 mod Keeping
