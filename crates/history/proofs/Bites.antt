@@ -60,7 +60,9 @@ module _ (floods : List (Flood ℕ)) where
       sym p.5 ∙ ap (λ (f : Flood ℕ). f.number) flood ∙ q.5
 
   -- a flood at a place, by computation
-  reached_at : (G k : ℕ) (flood : Flood ℕ) (row : Row ℕ) → flood_at floods k ≡ Some flood → slice_get flood.before 1 ≡ Some row → NoneMissed floods 1 G k → Reached floods G k
+  reached_at :
+      (G k : ℕ) (flood : Flood ℕ) (row : Row ℕ) → flood_at floods k ≡ Some flood → slice_get flood.before 1 ≡ Some row
+      → NoneMissed floods 1 G k → Reached floods G k
   reached_at G k flood row there row_there none = record {
     none_missed = none;
     flood = flood;
@@ -76,8 +78,10 @@ settle_floods run lawful begins =
 
 -- The theorem at a run, of what it comes to by computation.
 bites :
-    (run : Run) (G : ℕ) (C : ℕ → ℕ → ℕ) (k : ℕ) → KeepsLawful run.numbering → Settles run.numbering G C → begun (lent run).field (rows run) senders ≡ Ok (start run)
-    → (first : Flood ℕ) (own base : Row ℕ) → flood_at (floods run) 0 ≡ Some first → slice_get first.before 1 ≡ Some own → slice_get first.before 0 ≡ Some base → C own.held base.held ≡ k
+    (run : Run) (G : ℕ) (C : ℕ → ℕ → ℕ) (k : ℕ) → KeepsLawful run.numbering → Settles run.numbering G C
+    → begun (lent run).field (rows run) senders ≡ Ok (start run)
+    → (first : Flood ℕ) (own base : Row ℕ) → flood_at (floods run) 0 ≡ Some first → slice_get first.before 1 ≡ Some own
+    → slice_get first.before 0 ≡ Some base → C own.held base.held ≡ k
     → (reached : Reached (floods run) G k) → map (λ row. row.mark) reached.flood.before ≡ None ∷ None ∷ None ∷ []
     → map (λ copy. copy.number) reached.flood.copies ≡ map (λ copy. reached.flood.number) reached.flood.copies
     → (latest : LatestHeard (floods run) 1 k reached.row.held)
