@@ -1,6 +1,7 @@
 mod Bites
 mod CheckedExamples
 pub mod Checks
+mod Computing
 pub mod Counted
 pub mod Floods
 mod Keeping

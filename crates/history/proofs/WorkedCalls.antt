@@ -1,17 +1,10 @@
 -- The worked calls, by computation. Assumes nothing.
 use Rattle.std.proofs.Common.{refl}
-use Rattle.flood.specs.Instants.{changed}
-use Rattle.history.specs.Calls.{world_opened, copy_taken, next_taken, world_closed, world_damaged}
-use Rattle.vetting.specs.Cases.{fault_in}
-use Rattle.history.specs.Checks.{checked, checked_first}
-use Rattle.history.specs.Floods.{through}
-use Rattle.history.specs.Histories.{called, history}
-use Rattle.history.specs.Plays.{open_events, copies_in, copies_taken, instant_gone, tried, playing}
 use Rattle.history.specs.WorkedCalls.{WorkedCalls}
-use Rattle.search.specs.Lowest.{lowest, looked_for}
+use Rattle.history.proofs.Computing.{runs}
 
 pub worked_calls : WorkedCalls
-unfolding lowest looked_for changed fault_in checked checked_first world_opened copy_taken next_taken world_closed world_damaged open_events copies_in copies_taken instant_gone tried playing called history through
+unfolding runs
 worked_calls = record {
   begins = refl;
   answers = refl;

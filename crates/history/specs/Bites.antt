@@ -1,6 +1,6 @@
--- That floods settle bites. The theorem is applied to two small runs, and what it says stands beside what they come to; and what it
--- says is false with one less for the catch-up count, or one more for the patience. Assumes nothing.
-use Rattle.std.specs.Prelude.{◌≡◌, ℕ, suc, ◌+◌, ◌-◌, true, List, [], ◌∷◌, ◌++◌, map, Some, Ok, slice_get}
+-- That floods settle bites. The theorem is applied to two small runs, where what it says stands beside what is computed; and with C − 1
+-- in place of the catch-up count C, or G + 1 in place of the patience G, what it says is false. Assumes nothing.
+use Rattle.std.specs.Prelude.{◌≡◌, ℕ, suc, ◌+◌, ◌-◌, true, List, [], ◌∷◌, ◌++◌, map, None, Some, Ok, Option, slice_get}
 use Rattle.std.proofs.Common.{arith}
 use Rattle.air.specs.Airs.{losses_carry}
 use Rattle.air.specs.Delays.{KeepsPeriods, slowest_period}
@@ -63,46 +63,62 @@ module _ (run : Run) where
   unfoldable pub floods : List (Flood ℕ)
   floods = without_first (floods_told (history lent (Play run.instants 100 ∷ []) start).events)
 
--- Of each flood, the latest first, its number and the verdicts on the copies that sensor 1 heard.
-abbrev pub Hearings : Type 0
-Hearings = List (ℕ × List Verdict)
-
-abbrev pub hearings : List (Flood ℕ) → Hearings
+-- of each flood, the latest first, its number and the verdicts on the copies that sensor 1 heard, the latest first, too
+abbrev pub hearings : List (Flood ℕ) → List (ℕ × List Verdict)
 hearings = map (λ flood. (flood.number, verdicts_of 1 flood.copies))
 
--- What the theorem says of a run under a patience G and a catch-up count C. Just before the first of its floods sensor 1 holds x and
--- the base b; at the flood at place C, which is k, sensor 1 holds `held`, the number of the flood at place `latest`.
-pub record Bites (run : Run) (G : ℕ) (C : ℕ → ℕ → ℕ) (x b k held latest : ℕ) (verdicts : List Verdict) : Type 0 where
+-- What a run comes to by computation: what sensor 1 and the base hold just before the first flood, what sensor 1 heard, and C; and at
+-- the flood at place C, what sensor 1 holds just before, the place of the latest that it heard, and the verdicts on the copies it hears.
+pub record Comes : Type 0 where
+  pub own : ℕ
+  pub base : ℕ
+  pub heard : List (ℕ × List Verdict)
+  pub count : ℕ
+  pub held : ℕ
+  pub latest : ℕ
+  pub verdicts : List Verdict
+
+-- The theorem at a run that comes to this, under a patience G and a catch-up count C.
+pub record Bites (run : Run) (G : ℕ) (C : ℕ → ℕ → ℕ) (comes : Comes) : Type 0 where
   pub begins : begun (lent run).field (rows run) senders ≡ Ok (start run)
   pub periods_keep : KeepsPeriods slowest_period
-  -- all that is asked is met, by computation
-  pub asked : Asked run.numbering 3 (floods run) G C 1 k verdicts
-  pub own : asked.followed.own.held ≡ x
-  pub base : asked.followed.base.held ≡ b
-  pub count : catch_up asked.followed ≡ k
-  pub holds : asked.row.held ≡ held
-  -- so this is what floods settle to,
+  -- By computation all that is asked is met at the flood at place C,
+  pub heard : hearings (floods run) ≡ comes.heard
+  pub asked : Asked run.numbering 3 (floods run) G C 1 comes.count comes.verdicts
+  pub own : asked.followed.own.held ≡ comes.own
+  pub base : asked.followed.base.held ≡ comes.base
+  pub count : catch_up asked.followed ≡ comes.count
+  pub holds : asked.row.held ≡ comes.held
+  pub marks : map (λ row. row.mark) asked.flood.before ≡ None ∷ None ∷ None ∷ []
+  pub numbers : map (λ copy. copy.number) asked.flood.copies ≡ map (λ copy. asked.flood.number) asked.flood.copies
+  -- so the floods settle, by the theorem,
   pub settled : SettledFloods run.numbering 3 (floods run)
-  -- and that is, at the flood at place C, by (a), (b) and (c),
+  pub holds_latest : HoldsLatest (floods run) 1 G comes.count
+  pub accepts_after : AcceptsAfter (floods run) 1 G comes.count
+  -- which at that flood says (a), (b) and (c):
   pub alone : BeginsUnmarked 3 asked.flood × CarryNumber asked.flood.number asked.flood.copies
-  pub holds_latest : LatestHeard (floods run) 1 k held
-  pub accepts_first : AcceptsFirst verdicts
-  -- where the latest that it heard is what it is by computation.
-  pub at_latest : holds_latest.0 ≡ latest
+  pub latest : LatestHeard (floods run) 1 comes.count comes.held
+  pub accepts_first : AcceptsFirst comes.verdicts
+  -- the latest that it heard is the one that it is by computation
+  pub latest_at : latest.0 ≡ comes.latest
 
--- Sensor 1 misses the first flood of all, and so is out of step; then two that count.
+-- Sensor 1 misses the first flood of all, and so is out of step, and of those that count the first and the fourth.
 abbrev pub in_circular : Run
 in_circular = record { numbering = circular 4; held = 4; losses = missed_at 1 ++ missed_at 4 ++ missed_at 13; instants = 20 }
 
--- It misses the first flood of all, and the next.
+-- It misses the first flood of all, and the first of those that count.
 abbrev pub in_differentiated : Run
 in_differentiated = record { numbering = differentiated 2; held = 2; losses = missed_at 1 ++ missed_at 4; instants = 11 }
 
--- It is in step, and misses two in a row.
+-- It is in step, and misses the first two of those that count.
 abbrev pub two_missed : Run
 two_missed = record { numbering = differentiated 2; held = 2; losses = missed_at 4 ++ missed_at 7; instants = 11 }
 
--- No G in a row before place k pass sensor 1 unheard, and the flood there has begun: so (b) and (c) ask, whatever G and k are.
+-- what a sensor holds just before the flood at a place
+abbrev pub held_before : List (Flood ℕ) → ℕ → ℕ → Option ℕ
+held_before floods k sensor = elim (flood_at floods k) [ None ↦ None | Some flood ↦ elim (slice_get flood.before sensor) [ None ↦ None | Some row ↦ Some row.held ] ]
+
+-- what (b) and (c) ask of a flood at a place, at any G
 pub record Reached (floods : List (Flood ℕ)) (G k : ℕ) : Type 0 where
   pub none_missed : NoneMissed floods 1 G k
   pub flood : Flood ℕ
@@ -110,29 +126,57 @@ pub record Reached (floods : List (Flood ℕ)) (G k : ℕ) : Type 0 where
   pub there : flood_at floods k ≡ Some flood
   pub row_there : slice_get flood.before 1 ≡ Some row
 
--- With one less for C, (b) is false of the floods of which it is true at C: 4 is still held where 3 was heard last.
+abbrev pub less_than_C : ℕ
+less_than_C = circular_catch_up 4 - 1
+
+-- At C − 1 (b) is false of the very floods of which it is true at C: 4 is still held where 3 was heard last.
 pub record TightCount : Type 0 where
-  pub reached : Reached (floods in_circular) (half 4) (circular_catch_up 4 - 1)
+  pub reached : Reached (floods in_circular) (half 4) less_than_C
   pub holds : reached.row.held ≡ 4
-  pub heard : LatestHeard (floods in_circular) 1 (circular_catch_up 4 - 1) 3
-  pub another : LatestHeard (floods in_circular) 1 (circular_catch_up 4 - 1) reached.row.held → ⊥
-  pub tight : HoldsLatest (floods in_circular) 1 (half 4) (circular_catch_up 4 - 1) → ⊥
+  pub heard : LatestHeard (floods in_circular) 1 less_than_C 3
+  pub another : LatestHeard (floods in_circular) 1 less_than_C reached.row.held → ⊥
+  pub tight : HoldsLatest (floods in_circular) 1 (half 4) less_than_C → ⊥
 
--- With one more for G, (c) is false: no 3 in a row were missed, and the flood at place C is refused.
+abbrev pub more_than_G : ℕ
+more_than_G = 2 + 1
+
+-- At G + 1, with C kept, (c) is false: by a sensor that held what the base did no 3 in a row are missed, and it refuses the flood at
+-- place C, which is 2.
 pub record TightPatience : Type 0 where
-  pub reached : Reached (floods two_missed) (2 + 1) 2
-  pub verdicts : verdicts_of 1 reached.flood.copies ≡ Refused ∷ Refused ∷ []
+  pub own : held_before (floods two_missed) 0 1 ≡ Some 0
+  pub base : held_before (floods two_missed) 0 0 ≡ Some 0
+  pub reached : Reached (floods two_missed) more_than_G 2
+  pub heard : hearings (floods two_missed) ≡ (0, Refused ∷ Refused ∷ []) ∷ (2, []) ∷ (1, []) ∷ []
+  pub none_missed : NoneMissed (floods two_missed) 1 more_than_G 3
   pub refuses : AcceptsFirst (verdicts_of 1 reached.flood.copies) → ⊥
-  pub tight : AcceptsAfter (floods two_missed) 1 (2 + 1) 2 → ⊥
+  pub tight : AcceptsAfter (floods two_missed) 1 more_than_G 2 → ⊥
 
+-- In both runs sensor 1 refuses what it hears until it has caught up, and hears the flood at place C.
 pub record SettlingBites : Type 0 where
-  -- While sensor 1 catches up it refuses what it hears, and from the flood at place C on it is in step.
-  pub circular_heard :
-      hearings (floods in_circular)
-      ≡ (1, Refused ∷ Forwards ∷ []) ∷ (0, Refused ∷ Forwards ∷ []) ∷ (4, []) ∷ (3, Refused ∷ Refused ∷ []) ∷ (2, Refused ∷ Refused ∷ []) ∷ (1, []) ∷ []
-  pub circular_bites : Bites in_circular (half 4) (λ x b. circular_catch_up 4) 4 0 5 0 4 (Refused ∷ Forwards ∷ [])
-  pub differentiated_heard : hearings (floods in_differentiated) ≡ (0, Refused ∷ Forwards ∷ []) ∷ (2, Refused ∷ Refused ∷ []) ∷ (1, []) ∷ []
-  pub differentiated_bites : Bites in_differentiated 2 (λ x b. 2) 2 0 2 2 1 (Refused ∷ Forwards ∷ [])
+  pub circular : Bites in_circular (half 4) (λ x b. circular_catch_up 4) (record {
+    own = 4;
+    base = 0;
+    heard =
+        (1, Refused ∷ Forwards ∷ [])
+        ∷ (0, Refused ∷ Forwards ∷ [])
+        ∷ (4, [])
+        ∷ (3, Refused ∷ Refused ∷ [])
+        ∷ (2, Refused ∷ Refused ∷ [])
+        ∷ (1, [])
+        ∷ [];
+    count = 5;
+    held = 0;
+    latest = 4;
+    verdicts = Refused ∷ Forwards ∷ [];
+  })
+  pub differentiated : Bites in_differentiated 2 (λ x b. 2) (record {
+    own = 2;
+    base = 0;
+    heard = (0, Refused ∷ Forwards ∷ []) ∷ (2, Refused ∷ Refused ∷ []) ∷ (1, []) ∷ [];
+    count = 2;
+    held = 2;
+    latest = 1;
+    verdicts = Refused ∷ Forwards ∷ [];
+  })
   pub tight_count : TightCount
-  pub two_missed_heard : hearings (floods two_missed) ≡ (0, Refused ∷ Refused ∷ []) ∷ (2, []) ∷ (1, []) ∷ []
   pub tight_patience : TightPatience

@@ -30,4 +30,6 @@ pub record CheckedExamples : Type 0 where
   pub drawn_carry : (drawn_carries 1 1 (record (link_of 0 1) { label = 35 }) ≡ true) × (drawn_carries 1 1 (record (link_of 0 1) { label = 34 }) ≡ false)
   -- A fresh copy of hop 2 makes an unmarked receiver forward it; one that is marked accepts it, and its mark stays.
   pub unmarked : taken (differentiated 2) true (message 2 2) (row_of 1 1) ≡ record { verdict = Forwards; row = record (row_of 1 2) { mark = Some 1 } }
-  pub marked : (hop : ℕ) → taken (differentiated 2) true (message 2 2) (record (row_of 1 1) { mark = Some hop }) ≡ record { verdict = Accepted; row = record (row_of 1 2) { mark = Some hop } }
+  pub marked :
+      (hop : ℕ)
+      → taken (differentiated 2) true (message 2 2) (record (row_of 1 1) { mark = Some hop }) ≡ record { verdict = Accepted; row = record (row_of 1 2) { mark = Some hop } }

@@ -68,9 +68,9 @@ catch_up {C = C} followed = C followed.own.held followed.base.held
 pub record SettledFloods {Num : Type 0} (m : Meaning Num) (n : ℕ) (floods : List (Flood Num)) : Type 0 where
   -- (a) Each begins with no sensor marked, and all its copies carry its number.
   pub alone : (k : ℕ) (flood : Flood Num) → flood_at floods k ≡ Some flood → BeginsUnmarked n flood × CarryNumber flood.number flood.copies
-  -- (b) At the end of the first C a followed sensor holds the number of the latest that it heard.
+  -- (b) At the end of the first C a followed sensor holds the number of the latest that it heard, if no G in a row pass it unheard.
   pub holds_latest : (G : ℕ) (C : Num → Num → ℕ) (sensor : ℕ) (followed : Followed m n floods G C sensor) → HoldsLatest floods sensor G (catch_up followed)
-  -- (c) In every flood after the first C it accepts the first copy that it hears, and refuses the others.
+  -- (c) In every flood after the first C it accepts the first copy that it hears and refuses the others, if no G in a row passed it.
   pub accepts_first : (G : ℕ) (C : Num → Num → ℕ) (sensor : ℕ) (followed : Followed m n floods G C sensor) → AcceptsAfter floods sensor G (catch_up followed)
 
 -- In every run, of the floods since the last damage, those after the first settle.
