@@ -1,2 +1,3 @@
 mod Changes
 mod Onward
+mod Sends

@@ -1,6 +1,6 @@
 -- What an instant makes of rows and sender bytes, as it opens and as it ends. Assumes nothing.
-use Rattle.std.specs.Prelude.{ℕ, zero, suc, cond, List, [], ◌∷◌, Some, None, Option, ◌==◌}
-use Rattle.std.specs.List.{slice_get}
+use Rattle.std.specs.Prelude.{ℕ, zero, suc, Bool, cond, List, [], ◌∷◌, take, is_some, Some, None, Option, ◌==◌}
+use Rattle.std.specs.List.{list_any, slice_get}
 use Rattle.std.specs.Option.{unwrap_or}
 use Rattle.numbering.specs.Meaning.{Meaning}
 use Rattle.field.specs.declared.Row.{Row}
@@ -22,6 +22,10 @@ module _ {Num : Type 0} (m : Meaning Num) (s : Settings) (period : ℕ → ℕ �
   -- the rows once the instant is open
   abbrev pub opened : List (Row Num) → List (Row Num)
   opened = changed row_opened 0 s.n
+
+-- one of the first n sensors has something to send
+abbrev pub any_sends : {Num : Type 0} → ℕ → List (Row Num) → Bool
+any_sends n rows = list_any (λ row. is_some row.outgoing) (take n rows)
 
 -- the byte of a sensor, by its row; one without a row has nothing to send
 abbrev pub byte_of : {Num : Type 0} → Option (Row Num) → ℕ

@@ -1,7 +1,7 @@
 // Rows and sender bytes, as an instant opens and as it ends.
-ghost use Rattle.std.specs.Prelude.{◌≡◌, ℕ};
+ghost use Rattle.std.specs.Prelude.{◌≡◌, ℕ, is_some};
 ghost use Rattle.std.specs.List.{slice_get};
-ghost use Rattle.flood.specs.Instants.{changed, row_opened, opened, byte_of, sending, row_closed, closed, silent};
+ghost use Rattle.flood.specs.Instants.{any_sends, changed, row_opened, opened, byte_of, sending, row_closed, closed, silent};
 
 use crate::opening::{open_base, open_other, wait};
 use air::DelayRule;
@@ -22,16 +22,17 @@ fn change_each<T: Copy, F: Fn(u8, T) -> T>(items: &mut [T], n: u8, change: F)
     }
 }
 
-// A sensor as an instant opens; the base stays as it is where it must send and no number follows. Most
-// sensors wait, so that alone is done in place.
-fn open_row<N: Numbering, D: DelayRule>(
+// A sensor as an instant opens, and whether it then has something to send; the base stays as it is where it
+// must send and no number follows. Most sensors wait, so that alone is done in place.
+pub fn open_row<N: Numbering, D: DelayRule>(
     rules: &Rules<N>,
     delay: &D,
     instant: u32,
     sensor: u8,
     row: &mut Row<N::Number>,
-)
-    ensures { row.new ≡ row_opened (N.Numbering.meaning rules.now.numbering.now) rules.now.settings (D.DelayRule.period delay.now) instant sensor row.old }
+) -> bool
+    ensures row { row.new ≡ row_opened (N.Numbering.meaning rules.now.numbering.now) rules.now.settings (D.DelayRule.period delay.now) instant sensor row.old }
+    ensures sends { result ≡ is_some row.new.outgoing }
 {
     if row.timer > 1 {
         wait(row)
@@ -42,24 +43,28 @@ fn open_row<N: Numbering, D: DelayRule>(
     } else {
         *row = open_other(delay, rules.settings.tmax, instant, sensor, *row);
     }
+    row.outgoing.is_some()
 }
 
-// Opens the first n rows.
-#[tactic(auto, using(crate::proofs::Changes::changed_none, crate::proofs::Changes::one_changed, crate::proofs::Changes::none_changed))]
+// Opens the first n rows, and tells whether one of them has something to send.
+#[tactic(auto, using(crate::proofs::Changes::changed_none))]
 pub fn open_rows<N: Numbering, D: DelayRule>(
     rules: &Rules<N>,
     delay: &D,
     instant: u32,
     rows: &mut [Row<N::Number>],
-)
-    ensures { rows.new ≡ opened (N.Numbering.meaning rules.now.numbering.now) rules.now.settings (D.DelayRule.period delay.now) instant rows.old }
+) -> bool
+    ensures rows { rows.new ≡ opened (N.Numbering.meaning rules.now.numbering.now) rules.now.settings (D.DelayRule.period delay.now) instant rows.old }
+    ensures sends { result ≡ any_sends rules.now.settings.n rows.new }
 {
+    let mut sends = false;
     for sensor in 0..rules.settings.n {
         let at = usize::from(sensor);
         if at < rows.len() {
-            open_row(rules, delay, instant, sensor, &mut rows[at]);
+            sends |= open_row(rules, delay, instant, sensor, &mut rows[at]);
         }
     }
+    sends
 }
 
 // A sensor without a row has nothing to send.

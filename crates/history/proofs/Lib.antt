@@ -10,7 +10,7 @@ pub mod Limits
 pub mod NextCopies
 pub mod OneByOne
 mod Paces
-mod Places
+pub mod Places
 pub mod PlayLaws
 pub mod Playing
 pub mod Quiet

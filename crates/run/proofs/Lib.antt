@@ -1,3 +1,5 @@
 pub mod Began
+mod Loans
 mod Onward
+mod Playing
 mod Taking

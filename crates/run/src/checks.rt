@@ -59,7 +59,10 @@ pub fn check_first<N: Numbering, D, A>(
 }
 
 impl Progress {
-    pub fn rules<'n, N: Numbering, D, A>(&self, lent: &Lent<'n, '_, '_, '_, '_, '_, N, D, A>) -> Rules<'n, N>
+    pub fn rules<'n, N: Numbering, D, A>(
+        &self,
+        lent: &Lent<'n, '_, '_, '_, '_, '_, N, D, A>,
+    ) -> Rules<'n, N>
         ensures numbering { result.numbering ≡ lent.now.numbering }
         ensures settings { result.settings ≡ self.now.settings }
     {

@@ -1,6 +1,7 @@
 // An instant, call by call.
-ghost use Rattle.std.specs.Prelude.{◌≡◌, ◌+◌, ◌*◌, ◌≤◌, ◌<◌, is_some, IfSome, Some};
+ghost use Rattle.std.specs.Prelude.{◌≡◌, ◌+◌, ◌*◌, ◌≤◌, ◌<◌, is_some, IfSome, None, Some};
 ghost use Rattle.flood.specs.Copies.{next_copy, outgoing_of};
+ghost use Rattle.flood.specs.Instants.{any_sends};
 ghost use Rattle.history.specs.Calls.{carrying, closing, comes_through, copy_over, counted_copy, next_taken, opening, world_closed, world_opened};
 ghost use Rattle.history.specs.Worlds.{told_links};
 ghost use Rattle.run.specs.Answers.{answered, closed_as, moved, onward, opened_as, taken_on};
@@ -48,18 +49,37 @@ impl Idle {
         ensures lent { SameLoans lent.old lent.new }
     {
         let Idle { mut progress } = self;
-        progress.instant += 1;
-        let rules = progress.rules(lent);
+        progress.open_rows(lent);
         let rows = &mut *lent.rows;
-        open_rows(&rules, lent.delay, progress.instant, rows);
         send_bytes(progress.settings.n, rows, &mut *lent.senders);
-        if base_sends(rows) {
-            progress.floods += 1;
-        }
         Instant {
             progress,
             position: 0,
         }
+    }
+}
+
+impl Progress {
+    // The next instant, its rows open and no byte written yet. Tells whether a sensor sends.
+    #[tactic(auto, unfolding(history::specs::Calls::world_opened))]
+    pub fn open_rows<N: Numbering, D: DelayRule, A: Air>(
+        &mut self,
+        lent: &mut Lent<N, D, A>,
+    ) -> bool
+        requires { self.old.instant < 4294967295 }
+        ensures value { let world = stands self.old None lent.old in stands self.new (Some 0) lent.new ≡ record (world_opened (given N.Numbering.meaning D.DelayRule.period A.Air.carries self.old lent.old) world) { senders = lent.old.senders.now } }
+        ensures sends { result ≡ any_sends self.old.settings.n lent.new.rows.now }
+        ensures copies { self.new.copies ≡ self.old.copies }
+        ensures lent { SameLoans lent.old lent.new }
+    {
+        self.instant += 1;
+        let rules = self.rules(lent);
+        let rows = &mut *lent.rows;
+        let sends = open_rows(&rules, lent.delay, self.instant, rows);
+        if base_sends(rows) {
+            self.floods += 1;
+        }
+        sends
     }
 }
 
@@ -83,7 +103,11 @@ impl Progress {
     }
 
     // Does the air carry a copy over this link?
-    fn comes_through<N: Numbering, D: DelayRule, A: Air>(&self, lent: &Lent<N, D, A>, link: Link) -> bool
+    fn comes_through<N: Numbering, D: DelayRule, A: Air>(
+        &self,
+        lent: &Lent<N, D, A>,
+        link: Link,
+    ) -> bool
         ensures { result ≡ comes_through (given N.Numbering.meaning D.DelayRule.period A.Air.carries self.now lent.now) (stands self.now None lent.now) link }
     {
         let links = front(lent.links, self.count);
@@ -146,11 +170,7 @@ impl Instant {
         ensures onward { IfSome result (λ place. (self.now.position ≤ place) × (place < self.now.progress.count)) }
     {
         let rows = &*lent.rows;
-        next_copy(
-            rows,
-            front(lent.links, self.progress.count),
-            self.position,
-        )
+        next_copy(rows, front(lent.links, self.progress.count), self.position)
     }
 
     #[tactic(auto, unfolding(history::specs::Calls::next_taken))]

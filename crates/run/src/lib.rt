@@ -6,7 +6,9 @@ mod between;
 mod checks;
 mod instants;
 mod lending;
+mod play;
 mod states;
 
 pub use lending::Lent;
+pub use play::Played;
 pub use states::{Declined, Idle, Instant};
