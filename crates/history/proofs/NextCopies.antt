@@ -19,6 +19,10 @@ use Rattle.history.proofs.Kept.{From, carried_from, copied, onward_from, past_la
 use Rattle.history.proofs.Places.{same_lowest}
 use Rattle.history.proofs.PlayLaws.{instant_copies}
 
+-- an open instant at a place of the links
+abbrev pub moved : {Num : Type 0} → World Num → ℕ → World Num
+moved world place = record world { position = Some place }
+
 module _ {Num : Type 0} (lent : Lent Num) where
   abbrev told : List Link
   told = told_links lent.field
@@ -56,10 +60,6 @@ module _ {Num : Type 0} (lent : Lent Num) where
       by zero position world next rest f some before enough = absurd (omega (arith, f.onward, f.within))
       by (suc more) position world next rest f some before enough =
           ap (λ (went : Went Num). record { events = Takes next.copy ∷ went.events; world = went.world }) (before more enough) ∙ sym (one_taken more world next some)
-
-  -- the run at a place of the links
-  abbrev pub moved : World Num → ℕ → World Num
-  moved world place = record world { position = Some place }
 
   -- what comes of a next place
   abbrev taken_at : World Num → Option ℕ → Option (AfterCopy Num)

@@ -2,26 +2,33 @@
 use Rattle.std.proofs.Common.{◌≡◌, ℕ, suc, ◌+◌, ◌<◌, ◌≤◌, List, [], ◌++◌, length, Some, None, Ok, Err, sym, refl, ap, ◌∙◌, subst, arith, add-zero}
 use Rattle.std.proofs.lemmas.Bool.{le-ltb, lt-ltb}
 use Rattle.std.proofs.lemmas.List.{append-nil, length-append}
+use Rattle.std.proofs.lemmas.Option.{slice_get_within}
+use Rattle.std.specs.List.{slice_get}
 use Rattle.std.specs.Prelude.{◌-◌}
 use Rattle.std.specs.Result.{result_and}
 use Rattle.air.specs.Delays.{KeepsPeriods}
+use Rattle.field.specs.declared.Link.{Link}
+use Rattle.field.specs.declared.Message.{Message}
+use Rattle.field.specs.declared.Row.{Row}
 use Rattle.field.specs.declared.Stage.TheVariants.{Between, Within}
+use Rattle.flood.specs.Copies.{message_on}
 use Rattle.numbering.specs.Meaning.{KeepsLawful}
 use Rattle.refusal.specs.declared.RunFault.{RunFault}
 use Rattle.vetting.specs.declared.Named.TheVariants.{Nothing}
-use Rattle.history.specs.Calls.{AfterCopy, can_open, next_taken, opening, world_opened, world_closed}
+use Rattle.history.specs.Calls.{AfterCopy, can_open, copy_taken, next_taken, opening, world_opened, world_closed}
 use Rattle.history.specs.Checks.{checked}
 use Rattle.history.specs.Limits.{ChecksStay}
 use Rattle.history.specs.PlayLaws.{together, past}
 use Rattle.history.specs.Plays.{Event, Played, Went, copies_in, instant_gone, playing, tried}
 use Rattle.history.specs.Plays.Tried.{Ends, Done}
-use Rattle.history.specs.Worlds.{Lent, World}
+use Rattle.history.specs.Worlds.{Lent, World, told_links}
 use Rattle.history.specs.declared.taking.Ending.{Ending}
 use Rattle.history.specs.declared.taking.Ending.TheVariants.{BudgetSpent, LogShort, Refused}
 use Rattle.history.specs.declared.taking.TakenCopy.{TakenCopy}
 use Rattle.history.proofs.Kept.{closed_between, no_instant, playing_done, playing_ends, tried_done, went_on}
 use Rattle.history.proofs.Checks.{check_gives, check_passes, names_nothing}
 use Rattle.history.proofs.Limits.{checks_stay, closed_in_limits}
+use Rattle.history.proofs.NextCopies.{moved, takes_link}
 use Rattle.history.proofs.PlayLaws.{joined, play_laws}
 
 module _ {Num : Type 0} (lent : Lent Num) where
@@ -134,11 +141,20 @@ module _ {Num : Type 0} (lent : Lent Num) where
         → checked lent.field Nothing Within (world_opened lent world).rows (world_opened lent world).senders ≡ Ok tt
     opened_passes world here passed can = stay.opens world (world_opened lent world) here (opening_checked world passed ∙ rw can refl)
 
-    -- after a copy
+    -- after a copy, the next one or the one over a link at its place
     pub taken_passes :
         (world : World Num) (next : AfterCopy Num) → checked lent.field Nothing Within world.rows world.senders ≡ Ok tt → next_taken lent world ≡ Some next
         → checked lent.field Nothing Within next.world.rows next.world.senders ≡ Ok tt
     taken_passes = stay.takes
+
+    pub link_passes :
+        (world : World Num) (place : ℕ) (link : Link) (message : Message Num) (row : Row Num) → checked lent.field Nothing Within world.rows world.senders ≡ Ok tt
+        → slice_get (told_links lent.field) place ≡ Some link → message_on world.rows link ≡ Some message → slice_get world.rows link.to ≡ Some row
+        → let next = copy_taken lent world place link message row in checked lent.field Nothing Within next.world.rows next.world.senders ≡ Ok tt
+    unfolding copy_taken
+    link_passes world place link message row passed there goes comes =
+        let here = moved world place in
+        taken_passes here (copy_taken lent here place link message row) passed (takes_link lent here place refl (slice_get_within (told_links lent.field) place link there) link message row there goes comes)
 
     -- once the instant is closed
     pub closed_passes :
@@ -152,8 +168,8 @@ module _ {Num : Type 0} (lent : Lent Num) where
     -- and after a whole instant, which stands between instants again
     pub gone_passes :
         (world next : World Num) → world.position ≡ None → opening lent world ≡ Ok next
-        → checked lent.field Nothing Between (instant_gone lent world).world.rows (instant_gone lent world).world.senders ≡ Ok tt
-    gone_passes = stay.instants
+        → let gone = (instant_gone lent world).world in (gone.position ≡ None) × (checked lent.field Nothing Between gone.rows gone.senders ≡ Ok tt)
+    gone_passes world next here granted = (closed_between lent world, stay.instants world next here granted)
 
     pub done_passes :
         (room : ℕ) (world : World Num) (gone : Went Num) → world.position ≡ None → tried lent room world ≡ Done gone
@@ -161,4 +177,4 @@ module _ {Num : Type 0} (lent : Lent Num) where
     done_passes room world gone here done =
         let is = tried_done lent room world gone done in
         subst (λ (g : Went Num). (g.world.position ≡ None) × (checked lent.field Nothing Between g.world.rows g.world.senders ≡ Ok tt)) is.1
-        (closed_between lent world, gone_passes world is.0.next here is.0.opens)
+        (gone_passes world is.0.next here is.0.opens)

@@ -82,10 +82,19 @@ module _ {A : Type 0} where
       let here : f place x ≡ g place x = subst (λ (i : ℕ). f i x ≡ g i x) (add-zero place) (same 0 x (omega arith)) in
       rw (here, changed_alike f g (suc place) n xs (λ k y h. subst (λ (i : ℕ). f i y ≡ g i y) (omega arith) (same (suc k) y (omega arith)))) refl
 
--- what is granted, without what lies past n
-abbrev first_granted : {Num : Type 0} → ℕ → Result (World Num) RunFault → Result (World Num) RunFault
-first_granted n (Ok world) = Ok (first_alone n world)
-first_granted n (Err fault) = Err fault
+-- What is granted, turned into something else, and what comes after a check.
+module _ {A B : Type 0} where
+  abbrev granted : (A → B) → Result A RunFault → Result B RunFault
+  granted f (Ok x) = Ok (f x)
+  granted f (Err fault) = Err fault
+
+  and_granted : (f : A → B) (c : Result (Unit {0}) RunFault) (r : Result A RunFault) → result_and c (granted f r) ≡ granted f (result_and c r)
+  and_granted f (Ok t) r = refl
+  and_granted f (Err fault) r = refl
+
+and_same : {A : Type 0} (c : Result (Unit {0}) RunFault) (a b : Result A RunFault) → (c ≡ Ok tt → a ≡ b) → result_and c a ≡ result_and c b
+and_same (Ok t) a b same = same refl
+and_same (Err fault) a b same = refl
 
 module _ {Num : Type 0} (lent : Lent Num) where
   abbrev n : ℕ
@@ -156,22 +165,15 @@ module _ {Num : Type 0} (lent : Lent Num) where
   may_open_same : (world : World Num) → may_open told.field (first world) ≡ may_open lent.field world
   may_open_same world = rw (check_same Nothing Between world.rows world.senders, no_number_same world) refl
 
-  abbrev granted_first : Result (World Num) RunFault → Result (World Num) RunFault
-  granted_first = first_granted n
-
-  and_granted : (c : Result (Unit {0}) RunFault) (world : World Num) → result_and c (Ok (first world)) ≡ granted_first (result_and c (Ok world))
-  and_granted (Ok t) world = refl
-  and_granted (Err fault) world = refl
-
-  opening_same : (world : World Num) → opening told (first world) ≡ granted_first (opening lent world)
-  opening_same world = rw (may_open_same world, world_opened_same world) (and_granted (may_open lent.field world) (world_opened lent world))
+  opening_same : (world : World Num) → opening told (first world) ≡ granted first (opening lent world)
+  opening_same world = rw (may_open_same world, world_opened_same world) (and_granted first (may_open lent.field world) (Ok (world_opened lent world)))
 
   -- a row that is set
-  damaging_same : (damage : Damage Num) (world : World Num) → damaging told.field damage (first world) ≡ granted_first (damaging lent.field damage world)
+  damaging_same : (damage : Damage Num) (world : World Num) → damaging told.field damage (first world) ≡ granted first (damaging lent.field damage world)
   unfolding world_damaged
   damaging_same damage world =
       let check = checked lent.field (Damaged damage) Between world.rows world.senders in
-      rw (check_same (Damaged damage) Between world.rows world.senders, set_same n damage.sensor world.rows (damaged_row damage)) (and_granted check (world_damaged damage world))
+      rw (check_same (Damaged damage) Between world.rows world.senders, set_same n damage.sensor world.rows (damaged_row damage)) (and_granted first check (Ok (world_damaged damage world)))
 
   -- an instant that is closed
   world_closed_same : (world : World Num) → world_closed told.field (first world) ≡ first (world_closed lent.field world)
@@ -179,18 +181,15 @@ module _ {Num : Type 0} (lent : Lent Num) where
   world_closed_same world = rw (changed_first (λ sensor (row : Row Num). row_closed row) 0 n n world.rows, changed_first (λ sensor (byte : ℕ). 0) 0 n n world.senders) refl
 
   looking_same : (sensor : ℕ) (world : World Num) → looking told.field sensor (first world) ≡ looking lent.field sensor world
-  looking_same sensor world = rw (check_same (Sensor sensor) Between world.rows world.senders) (by (checked lent.field (Sensor sensor) Between world.rows world.senders) refl)
-    where
-      by :
-          (c : Result (Unit {0}) RunFault) → checked lent.field (Sensor sensor) Between world.rows world.senders ≡ c
-          → result_and c (ok_or (slice_get (take n world.rows) sensor) ShortBuffer) ≡ result_and c (ok_or (slice_get world.rows sensor) ShortBuffer)
-      by (Ok t) passes = ap (λ (o : Option (Row Num)). ok_or o ShortBuffer) (get_same n sensor world.rows (sensor_within lent.field sensor Between world passes))
-      by (Err fault) passes = refl
+  looking_same sensor world =
+      let check = checked lent.field (Sensor sensor) Between world.rows world.senders in
+      rw (check_same (Sensor sensor) Between world.rows world.senders)
+      (and_same check _ _ (λ passes. ap (λ (o : Option (Row Num)). ok_or o ShortBuffer) (get_same n sensor world.rows (sensor_within lent.field sensor Between world passes))))
 
-  begun_same : (rows : List (Row Num)) (senders : List ℕ) → begun told.field (take n rows) (take n senders) ≡ granted_first (begun lent.field rows senders)
+  begun_same : (rows : List (Row Num)) (senders : List ℕ) → begun told.field (take n rows) (take n senders) ≡ granted first (begun lent.field rows senders)
   begun_same rows senders =
       rw (begin_check_same rows senders, changed_first (λ sensor (row : Row Num). row_closed row) 0 n n rows, changed_first (λ sensor (byte : ℕ). 0) 0 n n senders)
-      (and_granted (checked_first lent.field rows senders) (record {
+      (and_granted first (checked_first lent.field rows senders) (Ok (record {
         settings = lent.field.settings;
         count = lent.field.count;
         rows = closed n rows;
@@ -198,7 +197,7 @@ module _ {Num : Type 0} (lent : Lent Num) where
         instant = 0;
         position = None;
         counts = none_yet;
-      }))
+      })))
 
   -- without what lies past n: a copy that was taken, what happened, and what an instant, a play and a call come to
   abbrev copy_first : AfterCopy Num → AfterCopy Num
@@ -346,7 +345,7 @@ module _ {Num : Type 0} (lent : Lent Num) where
       fits true gone = refl
       fits false gone = refl
 
-      by : (o : Result (World Num) RunFault) → opening lent world ≡ o → comes_to (granted_first o) (instant_gone told (first world)) ≡ tried_first (comes_to o (instant_gone lent world))
+      by : (o : Result (World Num) RunFault) → opening lent world ≡ o → comes_to (granted first o) (instant_gone told (first world)) ≡ tried_first (comes_to o (instant_gone lent world))
       by (Err fault) e = refl
       by (Ok next) e = let gone = instant_gone lent world in rw (instant_gone_same (links_of world next e) world, copies_first gone.events) (fits _ gone)
 
@@ -361,23 +360,17 @@ module _ {Num : Type 0} (lent : Lent Num) where
       ∙ rw (copies_first gone.events, before) (rw (map-append event_first gone.events rest.events) refl))
 
   -- Carry and close, within an instant.
-  abbrev carried_first : Result (Option (AfterCopy Num)) RunFault → Result (Option (AfterCopy Num)) RunFault
-  carried_first (Ok next) = Ok (option_map copy_first next)
-  carried_first (Err fault) = Err fault
-
   module _ (world : World Num) where
     abbrev within : Result (Unit {0}) RunFault
     within = checked lent.field Nothing Within world.rows world.senders
 
-    within_links : (c : Result (Unit {0}) RunFault) → within ≡ c → c ≡ Ok tt → LinksKeep lent.field
-    within_links c e passes = (check_gives lent.field Nothing (record world { position = Some 0 }) (Some 0) refl (e ∙ passes)).0
+    within_links : within ≡ Ok tt → LinksKeep lent.field
+    within_links passes = (check_gives lent.field Nothing (record world { position = Some 0 }) (Some 0) refl passes).0
 
-    carrying_same : carrying told (first world) ≡ carried_first (carrying lent world)
-    carrying_same = rw (check_same Nothing Within world.rows world.senders) (by within refl)
-      where
-        by : (c : Result (Unit {0}) RunFault) → within ≡ c → result_and c (Ok (next_taken told (first world))) ≡ carried_first (result_and c (Ok (next_taken lent world)))
-        by (Ok t) e = ap Ok (next_taken_same (within_links (Ok t) e refl) world)
-        by (Err fault) e = refl
+    carrying_same : carrying told (first world) ≡ granted (option_map copy_first) (carrying lent world)
+    carrying_same =
+        rw (check_same Nothing Within world.rows world.senders)
+        (and_same within _ _ (λ passes. ap Ok (next_taken_same (within_links passes) world)) ∙ and_granted (option_map copy_first) within (Ok (next_taken lent world)))
 
     copy_left_same : LinksKeep lent.field → copy_left told.field (first world) ≡ copy_left lent.field world
     copy_left_same links = by world.position
@@ -389,24 +382,22 @@ module _ {Num : Type 0} (lent : Lent Num) where
         by None = refl
         by (Some position) = ap is_some (next_copy_same links world position)
 
-    closing_same : closing told.field (first world) ≡ granted_first (closing lent.field world)
-    closing_same = rw (may_close_same, world_closed_same world) (and_granted (may_close lent.field world) (world_closed lent.field world))
-      where
-        by : (c : Result (Unit {0}) RunFault) → within ≡ c → result_and c (declines_where (copy_left told.field (first world)) CopyLeft) ≡ result_and c (declines_where (copy_left lent.field world) CopyLeft)
-        by (Ok t) e = ap (λ (left : Bool). declines_where left CopyLeft) (copy_left_same (within_links (Ok t) e refl))
-        by (Err fault) e = refl
+    may_close_same : may_close told.field (first world) ≡ may_close lent.field world
+    may_close_same =
+        rw (check_same Nothing Within world.rows world.senders)
+        (and_same within _ _ (λ passes. ap (λ (left : Bool). declines_where left CopyLeft) (copy_left_same (within_links passes))))
 
-        may_close_same : may_close told.field (first world) ≡ may_close lent.field world
-        may_close_same = rw (check_same Nothing Within world.rows world.senders) (by within refl)
+    closing_same : closing told.field (first world) ≡ granted first (closing lent.field world)
+    closing_same = rw (may_close_same, world_closed_same world) (and_granted first (may_close lent.field world) (Ok (world_closed lent.field world)))
 
     -- Each call.
     moves_same :
         (events whole : World Num → List (Event Num)) → ((next : World Num) → events (first next) ≡ map event_first (whole next))
-        → (r : Result (World Num) RunFault) → moves_on told (first world) events (granted_first r) ≡ outcome_first (moves_on lent world whole r)
+        → (r : Result (World Num) RunFault) → moves_on told (first world) events (granted first r) ≡ outcome_first (moves_on lent world whole r)
     moves_same events whole same (Ok next) = ap (λ (events : List (Event Num)). record { answer = Granted; events = events; world = first next }) (same next)
     moves_same events whole same (Err fault) = refl
 
-    takes_same : (r : Result (Option (AfterCopy Num)) RunFault) → takes_on told (first world) (carried_first r) ≡ outcome_first (takes_on lent world r)
+    takes_same : (r : Result (Option (AfterCopy Num)) RunFault) → takes_on told (first world) (granted (option_map copy_first) r) ≡ outcome_first (takes_on lent world r)
     takes_same (Ok None) = refl
     takes_same (Ok (Some next)) = refl
     takes_same (Err fault) = refl
@@ -457,11 +448,11 @@ module _ {Num : Type 0} where
 
   begun_at :
       (lent : Lent Num) (n : ℕ) → lent.field.settings.n ≡ n → (rows : List (Row Num)) (senders : List ℕ)
-      → begun (told_alone lent).field (take n rows) (take n senders) ≡ first_granted n (begun lent.field rows senders)
+      → begun (told_alone lent).field (take n rows) (take n senders) ≡ granted (first_alone n) (begun lent.field rows senders)
   begun_at lent n e rows senders =
-      subst (λ (n : ℕ). begun (told_alone lent).field (take n rows) (take n senders) ≡ first_granted n (begun lent.field rows senders)) e (begun_same lent rows senders)
+      subst (λ (n : ℕ). begun (told_alone lent).field (take n rows) (take n senders) ≡ granted (first_alone n) (begun lent.field rows senders)) e (begun_same lent rows senders)
 
-  begin_alike : (n : ℕ) (one two : Result (World Num) RunFault) → first_granted n one ≡ first_granted n two → BeginAlike n one two
+  begin_alike : (n : ℕ) (one two : Result (World Num) RunFault) → granted (first_alone n) one ≡ granted (first_alone n) two → BeginAlike n one two
   begin_alike n (Ok world) (Ok other) e = ok_is _ _ e
   begin_alike n (Ok world) (Err fault) e = cc
   begin_alike n (Err fault) (Ok other) e = cc

@@ -18,12 +18,12 @@ module _ {Num : Type 0} where
   abbrev pub SameTold : Lent Num → Lent Num → Type 0
   SameTold lent other = told_alone lent ≡ told_alone other
 
-  abbrev pub SameFirst : ℕ → World Num → World Num → Type 0
-  SameFirst n world other = first_alone n world ≡ first_alone n other
+  abbrev pub SameWithin : ℕ → World Num → World Num → Type 0
+  SameWithin n world other = first_alone n world ≡ first_alone n other
 
   -- two begins decline with the same fault, or are granted and the same but for that
   abbrev pub BeginAlike : ℕ → Result (World Num) RunFault → Result (World Num) RunFault → Type 0
-  BeginAlike n (Ok world) (Ok other) = SameFirst n world other
+  BeginAlike n (Ok world) (Ok other) = SameWithin n world other
   BeginAlike n (Ok world) (Err fault) = ⊥
   BeginAlike n (Err fault) (Ok other) = ⊥
   BeginAlike n (Err fault) (Err other) = fault ≡ other
@@ -35,6 +35,6 @@ module _ {Num : Type 0} where
         (rows others : List (Row Num)) (senders bytes : List ℕ) → let n = lent.field.settings.n in
         take n rows ≡ take n others → take n senders ≡ take n bytes → BeginAlike n (begun lent.field rows senders) (begun other.field others bytes)
     pub calls :
-        (world stands : World Num) → SameFirst lent.field.settings.n world stands
+        (world stands : World Num) → SameWithin lent.field.settings.n world stands
         → (call : Call Num) → let one = called lent world call in let two = called other stands call in
-        (one.answer ≡ two.answer) × SameFirst lent.field.settings.n one.world two.world
+        (one.answer ≡ two.answer) × SameWithin lent.field.settings.n one.world two.world
