@@ -47,7 +47,7 @@ granted_first (Ok t) rest x e = refl
 granted_first (Err fault) rest x e = absurd cc
 
 -- where something comes of what stands there, something stands there
-some_from : {A B C : Type 0} (o : Option A) (f : A → Option B) (y : B) → elim o [ None ↦ None | Some x ↦ f x ] ≡ Some y → ((x : A) → o ≡ Some x → f x ≡ Some y → C) → C
+pub some_from : {A B C : Type 0} (o : Option A) (f : A → Option B) (y : B) → elim o [ None ↦ None | Some x ↦ f x ] ≡ Some y → ((x : A) → o ≡ Some x → f x ≡ Some y → C) → C
 some_from None f y e to = none_is_some y e
 some_from (Some x) f y e to = to x refl e
 

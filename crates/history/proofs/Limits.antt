@@ -186,7 +186,7 @@ module _ {Num : Type 0} (lent : Lent Num) where
 
 module _ {Num : Type 0} (lent : Lent Num) (links : LinksKeep lent.field) (world : World Num) (rows_there : lent.field.settings.n ≤ length world.rows) where
   -- a copy that goes over a link is taken: its receiver has a row
-  taken_there : (place : ℕ) → copy_here world.rows (told_links lent.field) place ≡ true → is_some (copy_over lent world place) ≡ true
+  pub taken_there : (place : ℕ) → copy_here world.rows (told_links lent.field) place ≡ true → is_some (copy_over lent world place) ≡ true
   taken_there place = by (slice_get (told_links lent.field) place) refl
     where
       with_row : (link : Link) → link.to < lent.field.settings.n → (o : Option (Message Num)) → is_some o ≡ true

@@ -1,4 +1,5 @@
 pub mod Began
+mod Carrying
 mod Loans
 mod Onward
 mod Playing

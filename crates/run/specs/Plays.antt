@@ -1,8 +1,9 @@
 -- What play answers, and what its log holds. Assumes nothing.
 use Rattle.std.specs.Prelude.{◌≡◌, ℕ, ◌+◌, ◌-◌, ◌≤◌, List, ◌++◌, length, take, drop, Ok, Err, Result}
-use Rattle.history.specs.Plays.{Played as PlayedOut, Went, copies_in, tried}
+use Rattle.history.specs.Plays.{Played as PlayedOut, Went, copies_in, copies_taken, tried}
 use Rattle.history.specs.Plays.Tried.{Ends, Done}
-use Rattle.history.specs.Worlds.{Lent as Given, World}
+use Rattle.history.specs.Calls.{world_closed}
+use Rattle.history.specs.Worlds.{Lent as Given, World, told_links}
 use Rattle.history.specs.declared.Ending.{Ending}
 use Rattle.history.specs.declared.TakenCopy.{TakenCopy}
 use Rattle.run.specs.declared.play.Played.{Played}
@@ -23,6 +24,10 @@ pub record PlayAnswer (Num : Type 0) : Type 0 where
   pub world : World Num
   pub log : List (TakenCopy Num)
 
+-- all copies from where an open instant stands
+abbrev pub all_copies : {Num : Type 0} → Given Num → World Num → Went Num
+all_copies lent = copies_taken lent (length (told_links lent.field))
+
 module _ {Num : Type 0} where
   -- by its definition: the copies stand in front, and behind them what the log held
   abbrev pub played_out : List (TakenCopy Num) → PlayedOut Num → PlayAnswer Num
@@ -36,6 +41,12 @@ module _ {Num : Type 0} where
 
   abbrev pub played_as : Played → World Num → List (TakenCopy Num) → PlayAnswer Num
   played_as played world log = record { instants = played.instants; rows = played.rows; ending = played.ending; world = world; log = log }
+
+  -- All copies of an open instant taken with so many rows used: they are logged, and the run closes as it does behind them.
+  pub record CarriedAll (lent : Given Num) (used : ℕ) (start after : World Num) (log logs : List (TakenCopy Num)) (rows : ℕ) : Type 0 where
+    pub closes : world_closed lent.field (all_copies lent start).world ≡ world_closed lent.field after
+    pub logs_copies : logs ≡ logged log used (copies_in (all_copies lent start).events)
+    pub counts : rows ≡ used + length (copies_in (all_copies lent start).events)
 
   -- An instant that was tried with so many rows used: it is done, its copies logged; or play ends before it, and nothing changed.
   pub record WasDone (lent : Given Num) (used : ℕ) (world after : World Num) (log logs : List (TakenCopy Num)) (rows : ℕ) : Type 0 where

@@ -1,9 +1,12 @@
 // An instant, call by call.
-ghost use Rattle.std.specs.Prelude.{◌≡◌, ◌+◌, ◌*◌, ◌≤◌, ◌<◌, is_some, IfSome, None, Some};
+ghost use Rattle.std.specs.Prelude.{◌≡◌, ◌+◌, ◌*◌, ◌≤◌, ◌<◌, is_some, length, IfSome, None, Some};
 ghost use Rattle.flood.specs.Copies.{next_copy, outgoing_of};
 ghost use Rattle.flood.specs.Instants.{any_sends};
 ghost use Rattle.history.specs.Calls.{carrying, closing, comes_through, copy_over, counted_copy, next_taken, opening, world_closed, world_opened};
+ghost use Rattle.history.specs.Limits.{LinksKeep};
+ghost use Rattle.history.specs.Plays.{copies_in};
 ghost use Rattle.history.specs.Worlds.{told_links};
+ghost use Rattle.run.specs.Plays.{CarriedAll, all_copies};
 ghost use Rattle.run.specs.Answers.{answered, closed_as, moved, onward, opened_as, taken_on};
 ghost use Rattle.run.specs.Standing.{SameLoans, between, counts_of, field_given, given, stands, within};
 
@@ -127,6 +130,7 @@ impl Progress {
         ensures copies { self.new.copies ≤ self.old.copies + 1 }
         ensures links { self.new.count ≡ self.old.count }
         ensures instant { self.new.instant ≡ self.old.instant }
+        ensures settings { self.new.settings ≡ self.old.settings }
         ensures lent { SameLoans lent.old lent.new }
     {
         let link = *front(lent.links, self.count).get(place)?;
@@ -148,6 +152,36 @@ impl Progress {
             number: message.number,
             verdict: taken.verdict,
         })
+    }
+}
+
+impl Progress {
+    // All copies of an open instant, in the order of the links. They stand in the log behind the rows that are used; answered is
+    // how many rows are used then.
+    pub fn carry_all<N: Numbering, D: DelayRule, A: Air>(
+        &mut self,
+        lent: &mut Lent<N, D, A>,
+        log: &mut [TakenCopy<N::Number>],
+        used: usize,
+    ) -> usize
+        requires copies { self.old.copies + 1024 < 18446744073709551616 }
+        requires links { LinksKeep (field_given N.Numbering.meaning self.old lent.old) }
+        requires there { self.old.settings.n ≤ length lent.old.rows.now }
+        requires room { used + length (copies_in (all_copies (given N.Numbering.meaning D.DelayRule.period A.Air.carries self.old lent.old) (stands self.old (Some 0) lent.old)).events) ≤ length log.old }
+        ensures value { CarriedAll (given N.Numbering.meaning D.DelayRule.period A.Air.carries self.old lent.old) used (stands self.old (Some 0) lent.old) (stands self.new (Some 0) lent.new) log.old log.new result }
+        ensures holds { given N.Numbering.meaning D.DelayRule.period A.Air.carries self.new lent.new ≡ given N.Numbering.meaning D.DelayRule.period A.Air.carries self.old lent.old }
+        ensures copies { self.new.copies ≤ self.old.copies + self.old.count }
+        ensures instant { self.new.instant ≡ self.old.instant }
+        ensures lent { SameLoans lent.old lent.new }
+    {
+        let mut rows = used;
+        for place in 0..self.count {
+            if let Some(copy) = self.carry_over(lent, place) {
+                put(log, rows, copy);
+                rows += 1;
+            }
+        }
+        rows
     }
 }
 
