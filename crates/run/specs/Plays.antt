@@ -1,6 +1,6 @@
 -- What play answers, and what its log holds. Assumes nothing.
 use Rattle.std.specs.Prelude.{◌≡◌, ℕ, ◌+◌, ◌-◌, ◌≤◌, List, ◌++◌, length, take, drop, Ok, Err, Result}
-use Rattle.history.specs.Plays.{Played as PlayedOut, Went, copies_in, copies_taken, tried}
+use Rattle.history.specs.Plays.{Played as PlayedOut, Went, copies_in, copies_taken, instant_gone, tried}
 use Rattle.history.specs.Plays.Tried.{Ends, Done}
 use Rattle.history.specs.Calls.{world_closed}
 use Rattle.history.specs.Worlds.{Lent as Given, World, told_links}
@@ -47,6 +47,18 @@ module _ {Num : Type 0} where
     pub closes : world_closed lent.field (all_copies lent start).world ≡ world_closed lent.field after
     pub logs_copies : logs ≡ logged log used (copies_in (all_copies lent start).events)
     pub counts : rows ≡ used + length (copies_in (all_copies lent start).events)
+
+  -- The same up to the close.
+  pub record ClosedAll (lent : Given Num) (used : ℕ) (start after : World Num) (log logs : List (TakenCopy Num)) (rows : ℕ) : Type 0 where
+    pub closed : after ≡ world_closed lent.field (all_copies lent start).world
+    pub logs_copies : logs ≡ logged log used (copies_in (all_copies lent start).events)
+    pub counts : rows ≡ used + length (copies_in (all_copies lent start).events)
+
+  -- A whole instant, from where a run stood before it.
+  pub record InstantPlayed (lent : Given Num) (used : ℕ) (world after : World Num) (log logs : List (TakenCopy Num)) (rows : ℕ) : Type 0 where
+    pub stands : after ≡ (instant_gone lent world).world
+    pub logs_copies : logs ≡ logged log used (copies_in (instant_gone lent world).events)
+    pub counts : rows ≡ used + length (copies_in (instant_gone lent world).events)
 
   -- An instant that was tried with so many rows used: it is done, its copies logged; or play ends before it, and nothing changed.
   pub record WasDone (lent : Given Num) (used : ℕ) (world after : World Num) (log logs : List (TakenCopy Num)) (rows : ℕ) : Type 0 where

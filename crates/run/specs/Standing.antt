@@ -3,6 +3,7 @@ use Rattle.std.specs.Prelude.{◌≡◌, ℕ, List, Some, None, Option}
 use Rattle.air.specs.Airs.{Carrying}
 use Rattle.field.specs.declared.Row.{Row}
 use Rattle.field.specs.declared.Settings.{Settings}
+use Rattle.flood.specs.Instants.{sending}
 use Rattle.history.specs.Worlds.{Field, Lent as Given, World}
 use Rattle.history.specs.declared.Counts.{Counts}
 use Rattle.numbering.specs.Meaning.{Meaning}
@@ -33,6 +34,10 @@ module _ {N D A Num : Type 0} where
 
   abbrev pub within : Instant → Lent N D A Num → World Num
   within run = stands run.progress (Some run.position)
+
+  -- an instant whose rows are open, at the first link, once its sender bytes are written
+  abbrev pub with_bytes : Progress → Lent N D A Num → World Num
+  with_bytes p lent = record (stands p (Some 0) lent) { senders = sending lent.rows.now p.settings.n lent.senders.now }
 
   -- the field that is played, by the meaning of the numbering, the settings and the told count
   abbrev pub field_told : (N → Meaning Num) → Settings → ℕ → Lent N D A Num → Field Num

@@ -101,7 +101,7 @@ impl Progress {
     }
 
     // Can the next instant open: is there one more, and does the base find a number if it is to send?
-    fn can_open<N: Numbering, D, A>(&self, lent: &Lent<N, D, A>) -> Result<(), RunFault>
+    pub fn can_open<N: Numbering, D, A>(&self, lent: &Lent<N, D, A>) -> Result<(), RunFault>
         ensures { result ≡ can_open (field_given N.Numbering.meaning self.now lent.now) (stands self.now None lent.now) }
     {
         if self.instant == u32::MAX {

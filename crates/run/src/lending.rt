@@ -3,7 +3,7 @@ ghost use Rattle.std.specs.Prelude.{◌≡◌, set, take};
 ghost use Rattle.flood.specs.Copies.{message_on};
 
 use field::{Link, Message, Row};
-use flood::message_on;
+use flood::{message_on, send_bytes};
 use numbering::Numbering;
 
 /// What a field is played by and with: the same at each call of a run. Of the links only those that begin was told are looked at,
@@ -19,12 +19,25 @@ pub struct Lent<'n, 'd, 'a, 'l, 'r, 's, N: Numbering, D, A> {
 }
 
 impl<N: Numbering, D, A> Lent<'_, '_, '_, '_, '_, '_, N, D, A> {
+    ghost use Rattle.flood.specs.Instants.{sending};
+    ghost use Rattle.run.specs.Standing.{SameLoans};
+
     // What goes over a link: its sender's outgoing message, if there is one.
     pub fn message_over(&self, link: Link) -> Option<Message<N::Number>>
         ensures { result ≡ message_on self.now.rows.now link }
     {
         let rows = &*self.rows;
         message_on(rows, link)
+    }
+
+    // The first n sender bytes, by the rows.
+    pub fn send_bytes(&mut self, n: u8)
+        ensures senders { self.new.senders.now ≡ sending self.old.rows.now n self.old.senders.now }
+        ensures rows { self.new.rows.now ≡ self.old.rows.now }
+        ensures lent { SameLoans self.old self.new }
+    {
+        let rows = &mut *self.rows;
+        send_bytes(n, rows, &mut *self.senders);
     }
 }
 

@@ -31,19 +31,19 @@ loop-place-preserved g c =
     let loans = loans_through at.invariant.4 told.lent in
     elim c.match-carry_over.branch [
       | in-Some w ↦ (
-        let over = one_over (moved here place) (moved after (suc place)) _ w.in-Some.copy w.in-Some.ensures.value in
-        let next : AfterCopy _ = record { copy = w.in-Some.copy; world = moved after (suc place) } in
-        let over = subst (λ (i : Lent _). copy_over i (moved here place) place ≡ Some next) at.invariant.1 over in
-        let one = carries_one inputs start c.args.log.now c.args.used place here at.log at.rows at.invariant.0 c.requires.room next over c.match-carry_over.log (w.log-is ∙ w.put.ensures) in
-        (subst (λ (k : ℕ). Carries inputs start c.args.log.now c.args.used (place + 1) after c.match-carry_over.log k) (sym w.rows-is) (carries_at inputs start c.args.log.now c.args.used (place + 1) 0 _ _ _ one), same, few, instant, loans)
-        )
+          let over = one_over (moved here place) (moved after (suc place)) _ w.in-Some.copy w.in-Some.ensures.value in
+          let next : AfterCopy _ = record { copy = w.in-Some.copy; world = moved after (suc place) } in
+          let over = subst (λ (i : Lent _). copy_over i (moved here place) place ≡ Some next) at.invariant.1 over in
+          let one = carries_one inputs start c.args.log.now c.args.used place here at.log at.rows at.invariant.0 c.requires.room next over c.match-carry_over.log (w.log-is ∙ w.put.ensures) in
+          (subst (λ (k : ℕ). Carries inputs start c.args.log.now c.args.used (place + 1) after c.match-carry_over.log k) (sym w.rows-is) (carries_at inputs start c.args.log.now c.args.used (place + 1) 0 _ _ _ one), same, few, instant, loans)
+          )
       | in_default w ↦ (
-        let gives = none_over (moved here place) (moved after place) _ (rw (no_copy c.carry_over.result w.in_default.not-Some) at told.value) in
-        let none = subst (λ (i : Lent _). copy_over i (moved here place) place ≡ None) at.invariant.1 gives.0 in
-        let past = carries_past inputs start c.args.log.now c.args.used place here at.log at.rows at.invariant.0 c.requires.links within none in
-        let stands_still : after ≡ here = ap (λ (w : World _). moved w 0) gives.1 in
-        (rw (stands_still, w.log-is, w.rows-is) past, same, few, instant, loans)
-        )
+          let gives = none_over (moved here place) (moved after place) _ (rw (no_copy c.carry_over.result w.in_default.not-Some) at told.value) in
+          let none = subst (λ (i : Lent _). copy_over i (moved here place) place ≡ None) at.invariant.1 gives.0 in
+          let past = carries_past inputs start c.args.log.now c.args.used place here at.log at.rows at.invariant.0 c.requires.links within none in
+          let stands_still : after ≡ here = ap (λ (w : World _). moved w 0) gives.1 in
+          (rw (stands_still, w.log-is, w.rows-is) past, same, few, instant, loans)
+          )
     ]
 
 pub returns-clause-value : goal.returns-clause-value
