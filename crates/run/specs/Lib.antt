@@ -1,3 +1,4 @@
 pub mod Standing
 pub mod Answers
 pub mod Laws
+pub mod Writing

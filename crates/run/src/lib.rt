@@ -7,6 +7,7 @@ mod checks;
 mod instants;
 mod lending;
 mod states;
+mod write;
 
 pub use lending::Lent;
 pub use states::{Declined, Idle, Instant};
