@@ -1,3 +1,5 @@
 pub mod Began
+mod Begins
 mod Onward
+mod Returning
 mod Taking

@@ -1,5 +1,6 @@
 // The field of a run, written as it stands.
 ghost use Rattle.std.specs.Prelude.{◌≡◌, take, IfOk};
+ghost use Rattle.run.specs.Returning.{WriteLaws};
 ghost use Rattle.run.specs.Standing.{between, field_given};
 ghost use Rattle.run.specs.Writing.{LoadsAsItStands, filing_given, write_answers, write_leaves};
 
@@ -28,6 +29,7 @@ impl Idle {
         ensures value { let filing = filing_given N.Filed.coded N.Filed.top N.Number.NumberKind.of N.Number.NumberKind.worth lent.now in result ≡ write_answers (field_given N.Numbering.meaning self.now.progress lent.now) (between self.now lent.now) losses.now filing out.old }
         ensures out { let filing = filing_given N.Filed.coded N.Filed.top N.Number.NumberKind.of N.Number.NumberKind.worth lent.now in out.new ≡ write_leaves (field_given N.Numbering.meaning self.now.progress lent.now) (between self.now lent.now) losses.now filing out.old }
         ensures same { let filing = filing_given N.Filed.coded N.Filed.top N.Number.NumberKind.of N.Number.NumberKind.worth lent.now in IfOk result (λ size. LoadsAsItStands (field_given N.Numbering.meaning self.now.progress lent.now) (between self.now lent.now) losses.now filing (take size out.new)) }
+        ensures laws { WriteLaws (N.Numbering.meaning lent.now.numbering.now) (filing_given N.Filed.coded N.Filed.top N.Number.NumberKind.of N.Number.NumberKind.worth lent.now) }
     {
         let draft = Draft {
             rules: self.progress.rules(lent),
