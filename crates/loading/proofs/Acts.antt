@@ -43,7 +43,7 @@ module _ (file : List ℕ) (ok : Passed file) (fits : Bytes file) where
       behind (is Field (suc k)) (is Link (suc k)) (is Loss (suc k)) (is Link k) (is Loss k) (rw (later, before) at here)
 
   -- past the links there is none, and past the losses no loss
-  no_link : (k : ℕ) → 1 + n file + L file ≤ k → k < records file → is Link k ≡ false
+  pub no_link : (k : ℕ) → 1 + n file + L file ≤ k → k < records file → is Link k ≡ false
   no_link = none_from (is Link) (1 + n file + L file) (records file) first (λ k low high e. (follows k (omega arith) high e).0)
     where
       first : 1 + n file + L file < records file → is Link (1 + n file + L file) ≡ false

@@ -4,6 +4,7 @@ mod Cuts
 mod Decodes
 mod Joins
 mod Laid
+pub mod Loaded
 mod Parted
 mod Passing
 mod Returns

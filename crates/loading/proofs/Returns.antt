@@ -28,11 +28,14 @@ use Rattle.loading.proofs.Parted.{Section, n, L, X, A, lead_is, counted, kind_sa
 use Rattle.loading.proofs.Sections.{Back, items_back}
 
 -- the parts together are the file
-parts_are : (file : List ℕ) → (take 12 file ++ (row_records file ++ (link_records file ++ loss_records file))) ++ act_records file ≡ file
+pub parts_are : (file : List ℕ) → (take 12 file ++ (row_records file ++ (link_records file ++ loss_records file))) ++ act_records file ≡ file
 parts_are file = simp (append_assoc, take-append-drop)
 
-together : {h k r s l m x y a b : List ℕ} → h ≡ k → r ≡ s → l ≡ m → x ≡ y → a ≡ b → (h ++ (r ++ (l ++ x))) ++ a ≡ (k ++ (s ++ (m ++ y))) ++ b
-together head rows links losses acts = rw (head, rows, links, losses, acts)
+together : {h k r s l m x y : List ℕ} → h ≡ k → r ≡ s → l ≡ m → x ≡ y → h ++ (r ++ (l ++ x)) ≡ k ++ (s ++ (m ++ y))
+together head rows links losses = rw (head, rows, links, losses)
+
+both : {a b c d : List ℕ} → a ≡ b → c ≡ d → a ++ c ≡ b ++ d
+both first second = rw (first, second)
 
 module _ (file : List ℕ) (ok : Passed file) (fits : Bytes file) where
   module _ {section : List ℕ} {start count : ℕ} (s : Section file section start count) where
@@ -129,17 +132,25 @@ module _ (file : List ℕ) (ok : Passed file) (fits : Bytes file) where
               same = one.same;
             }
 
-    pub field_back :
-        (s : Settings) (rows : List (Row Num)) (links : List Linked) (losses : List Lost) (acts : List (Act Num))
-        → records (row_records file) ≤ length rows → records (link_records file) ≤ length links → records (loss_records file) ≤ length losses → records (act_records file) ≤ length acts → FilesSettings file s
-        → field_bytes worth (file_code file) (file_smax file) s (rows_filled of (row_records file) rows) (take (records (link_records file)) (links_filled (link_records file) links)) (take (records (loss_records file)) (losses_filled (loss_records file) losses))
-        ++ act_bytes worth (take (records (act_records file)) (acts_filled of (act_records file) acts)) ≡ file
-    unfolding field_bytes act_bytes
-    field_back s rows links losses acts row_room link_room loss_room act_room has =
-        let sec = row_section file ok fits in
-        let every = ap (λ (k : ℕ). joined (row_record worth) 0 (take k (rows_filled of (row_records file) rows))) (has.n_is ∙ sym (counted file sec)) in
-        let rows_same = section_back sec (row_at of (row_records file)) (row_record worth) row_there rows row_room in
-        let links_same = section_back (link_section file ok fits) (λ k. Some (link_at (link_records file) k)) (λ place. link_record) link_there links link_room in
-        let losses_same = section_back (loss_section file ok fits) (λ k. Some (loss_at (loss_records file) k)) (λ place. loss_record) loss_there losses loss_room in
-        let acts_same = section_back (act_section file ok fits) (act_at of (act_records file)) (λ place. act_record worth) act_there acts act_room in
-        together (head_same s has) (every ∙ rows_same) links_same losses_same acts_same ∙ parts_are file
+    module _ (s : Settings) (rows : List (Row Num)) (links : List Linked) (losses : List Lost)
+        (row_room : records (row_records file) ≤ length rows) (link_room : records (link_records file) ≤ length links) (loss_room : records (loss_records file) ≤ length losses) (has : FilesSettings file s) where
+      -- what stands before the acts
+      abbrev before_bytes : List ℕ
+      before_bytes =
+          field_bytes worth (file_code file) (file_smax file) s (rows_filled of (row_records file) rows) (take (records (link_records file)) (links_filled (link_records file) links)) (take (records (loss_records file)) (losses_filled (loss_records file) losses))
+
+      pub before_back : before_bytes ≡ take 12 file ++ (row_records file ++ (link_records file ++ loss_records file))
+      unfolding field_bytes
+      before_back =
+          let sec = row_section file ok fits in
+          let every = ap (λ (k : ℕ). joined (row_record worth) 0 (take k (rows_filled of (row_records file) rows))) (has.n_is ∙ sym (counted file sec)) in
+          let rows_same = section_back sec (row_at of (row_records file)) (row_record worth) row_there rows row_room in
+          let links_same = section_back (link_section file ok fits) (λ k. Some (link_at (link_records file) k)) (λ place. link_record) link_there links link_room in
+          let losses_same = section_back (loss_section file ok fits) (λ k. Some (loss_at (loss_records file) k)) (λ place. loss_record) loss_there losses loss_room in
+          together (head_same s has) (every ∙ rows_same) links_same losses_same
+
+      pub field_back : (acts : List (Act Num)) → records (act_records file) ≤ length acts → before_bytes ++ act_bytes worth (take (records (act_records file)) (acts_filled of (act_records file) acts)) ≡ file
+      unfolding act_bytes
+      field_back acts act_room =
+          let acts_same = section_back (act_section file ok fits) (act_at of (act_records file)) (λ place. act_record worth) act_there acts act_room in
+          both before_back acts_same ∙ parts_are file

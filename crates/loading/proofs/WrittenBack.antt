@@ -46,4 +46,4 @@ module _ {Num : Type 0} (worth : Num → ℕ) where
         let losses_same = front_same (ap (λ (c : Counts). c.losses) count) loss_is in
         let acts_same = front_same (ap (λ (c : Counts). c.acts) count) act_is in
         same_bytes s coded topped row_is links_same losses_same acts_same
-        ∙ field_back file (passed file (ap is_ok passes)) fits m of worth undone own s rows links losses acts room.rows room.links room.losses room.acts has
+        ∙ field_back file (passed file (ap is_ok passes)) fits m of worth undone own s rows links losses room.rows room.links room.losses has acts room.acts

@@ -1,6 +1,8 @@
 pub mod Began
+mod Begins
 mod Carrying
 mod Loans
 mod Onward
 mod Playing
+mod Returning
 mod Taking

@@ -8,6 +8,7 @@ mod instants;
 mod lending;
 mod play;
 mod states;
+mod write;
 
 pub use lending::Lent;
 pub use play::Played;
