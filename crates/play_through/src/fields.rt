@@ -1,0 +1,105 @@
+// The worked field: three sensors, of which 1 and 2 hear each other, and 1 hears the base.
+
+use crate::calls::play_by_calls;
+use crate::failure::Failure;
+use crate::telling;
+use crate::writing_back::write_back;
+use air::{Collisions, Drawn, Losses, Slowest};
+use field::{Link, Row, Settings};
+use numbering::Differentiated;
+use refusal::FieldFault;
+use run::Lent;
+use std::alloc::{AllocError, Global};
+use storm::{Staggered, Storm};
+use windowed::{Serial, Windowed};
+
+const TIMERS: [u16; 3] = [1, 2, 1];
+
+const LINKS: [Link; 3] = [
+    Link {
+        from: 0,
+        to: 1,
+        label: 100,
+    },
+    Link {
+        from: 1,
+        to: 2,
+        label: 100,
+    },
+    Link {
+        from: 2,
+        to: 1,
+        label: 100,
+    },
+];
+
+fn settings() -> Result<Settings, FieldFault> {
+    Settings::new(3, 2, 2, 5, 0)
+}
+
+// A row for each sensor, unmarked, with these numbers.
+fn rows<K: Copy>(heap: Global, numbers: &[K]) -> Result<Vec<Row<K>>, AllocError> {
+    TIMERS
+        .iter()
+        .zip(numbers)
+        .map(|(timer, held)| Row {
+            timer: *timer,
+            held: *held,
+            mark: None,
+            outgoing: None,
+        })
+        .collect(heap)
+}
+
+// Under what the field has.
+pub fn play_worked(rt: &HostRuntime) -> Result<(), Failure> {
+    println!(rt; "The worked field")?;
+    let numbering = Differentiated::new(2).ok_or(FieldFault::BadSetting)?;
+    let mut rows = rows(rt.alloc(), &[0, 1, 0])?;
+    let mut senders = vec![in rt.alloc(); 0u8; rows.len()]?;
+    let air = Collisions {
+        below: Losses {
+            listed: &[],
+            below: Drawn { seed: 0 },
+        },
+    };
+    let mut lent = Lent {
+        numbering: &numbering,
+        delay: &Slowest,
+        air: &air,
+        links: &LINKS,
+        rows: &mut rows,
+        senders: &mut senders,
+    };
+    let settings = settings()?;
+    let run = play_by_calls(rt, settings, &mut lent)?;
+    write_back(rt, &run, settings, &lent)?;
+    telling::finished(rt, run.finish(&lent)?)?;
+    Ok(())
+}
+
+// Under a numbering, a delay rule and an air that were made outside.
+pub fn play_outside(rt: &HostRuntime) -> Result<(), Failure> {
+    println!(rt; "The worked field under parts made outside")?;
+    let numbering = Windowed::new(2).ok_or(FieldFault::BadSetting)?;
+    let mut rows = rows(rt.alloc(), &[0, 1, 0].map(|value: u16| Serial { value }))?;
+    let mut senders = vec![in rt.alloc(); 0u8; rows.len()]?;
+    let air = Storm {
+        first: 5,
+        last: 7,
+        below: Collisions {
+            below: Drawn { seed: 0 },
+        },
+    };
+    let mut lent = Lent {
+        numbering: &numbering,
+        delay: &Staggered,
+        air: &air,
+        links: &LINKS,
+        rows: &mut rows,
+        senders: &mut senders,
+    };
+    let run = play_by_calls(rt, settings()?, &mut lent)?;
+    telling::finished(rt, run.finish(&lent)?)?;
+    Ok(())
+}
