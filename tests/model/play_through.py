@@ -92,5 +92,14 @@ def main():
     play_on(run, 8)
     finish(run)
 
+    print("The worked field, each call once")
+    run = Run(SETTINGS, Differentiated(2), slowest, drawn(0), LINKS, ROWS)
+    run.open()
+    run.carry()
+    run.close()
+    run.damage(2, Row(1, 0))
+    run.play(1, 0)
+    finish(run)
+
 
 main()

@@ -2,10 +2,11 @@
 
 use crate::calls::play_by_calls;
 use crate::failure::Failure;
+use crate::in_order::play_in_order;
 use crate::telling;
 use crate::writing_back::write_back;
 use air::{Collisions, Drawn, Losses, Slowest};
-use field::{Link, Row, Settings};
+use field::{Damage, Link, Row, Settings};
 use numbering::Differentiated;
 use refusal::FieldFault;
 use run::Lent;
@@ -14,6 +15,9 @@ use storm::{Staggered, Storm};
 use windowed::{Serial, Windowed};
 
 const TIMERS: [u16; 3] = [1, 2, 1];
+
+// A field file has a record of 12 bytes for the settings, each row and each link.
+const FILE_SIZE: usize = 12 * (1 + 3 + 3);
 
 const LINKS: [Link; 3] = [
     Link {
@@ -101,5 +105,31 @@ pub fn play_outside(rt: &HostRuntime) -> Result<(), Failure> {
     };
     let run = play_by_calls(rt, settings()?, &mut lent)?;
     telling::finished(rt, run.finish(&lent)?)?;
+    Ok(())
+}
+
+// Each call once.
+pub fn play_once(rt: &HostRuntime) -> Result<(), Failure> {
+    println!(rt; "The worked field, each call once")?;
+    let numbering = Differentiated::new(2).ok_or(FieldFault::BadSetting)?;
+    let mut rows = rows(rt.alloc(), &[0, 1, 0])?;
+    let mut senders = vec![in rt.alloc(); 0u8; rows.len()]?;
+    let mut page = vec![in rt.alloc(); 0u8; FILE_SIZE]?;
+    let mut lent = Lent {
+        numbering: &numbering,
+        delay: &Slowest,
+        air: &Drawn { seed: 0 },
+        links: &LINKS,
+        rows: &mut rows,
+        senders: &mut senders,
+    };
+    let damage = Damage {
+        sensor: 2,
+        timer: 1,
+        mark: None,
+        held: 0,
+    };
+    let counts = play_in_order(settings()?, &mut lent, damage, &mut page)?;
+    telling::finished(rt, counts)?;
     Ok(())
 }

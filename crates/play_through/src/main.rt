@@ -6,6 +6,7 @@ mod calls;
 mod failure;
 mod fields;
 mod filed_field;
+mod in_order;
 mod telling;
 mod writing_back;
 
@@ -16,15 +17,16 @@ use std::{env, io};
 
 const USAGE: &str = "usage: play_through
 
-Plays the worked field of three sensors by the calls of a run, and prints each
-call with its answer, a line for each:
+Plays the worked field of three sensors by the calls of a run, and prints what
+each call answers, in a line of its own:
 
   1. under the numbering, the delay rule and the air that the field has: begin,
-     look, open, carry, close, damage, play, write and finish, and three calls
+     look, open, carry, close, damage, play, write and finish, and two calls
      that decline;
   2. by the same calls, under a numbering, a delay rule and an air that were
      made outside;
-  3. loaded from a field file: play, damage, play and finish.
+  3. loaded from a field file and played as the file says;
+  4. by each call once.
 
 A copy is told by its instant, sender, receiver, hop, number and verdict. A call
 that declines is told by the refusal's number, place and layer.
@@ -33,7 +35,8 @@ that declines is told by the refusal's number, place and layer.
 fn play_all(rt: &HostRuntime) -> Result<(), Failure> {
     fields::play_worked(rt)?;
     fields::play_outside(rt)?;
-    filed_field::play_file(rt, filed_field::WORKED)
+    filed_field::play_file(rt, filed_field::WORKED)?;
+    fields::play_once(rt)
 }
 
 fn run(rt: &HostRuntime) -> io::Result<ExitCode> {
