@@ -180,7 +180,7 @@ module _ (file : List ℕ) (ok : Passed file) (fits : Bytes file) where
   module _ {Num : Type 0} (m : Meaning Num) (of : ℕ → Option Num)
       (lawful : (v : ℕ) → lawful_value (file_code file) (file_smax file) v ≡ lawful_of m of v)
       (s : Settings) (has : FilesSettings file s) (rows : List (Row Num)) (links : List Linked) (losses : List Lost)
-      (row_room : s.n ≤ length rows) (link_room : records (link_records file) ≤ length links) (loss_room : records (loss_records file) ≤ length losses) where
+      (row_room : records (row_records file) ≤ length rows) (link_room : records (link_records file) ≤ length links) (loss_room : records (loss_records file) ≤ length losses) where
     abbrev all_rows : List (Row Num)
     all_rows = rows_filled of (row_records file) rows
 
@@ -317,6 +317,8 @@ module _ (file : List ℕ) (ok : Passed file) (fits : Bytes file) where
     -- so it is a field
     pub loaded_vets : vetted m s all_rows all_links all_losses ≡ Ok tt
     loaded_vets =
+        let many = counted file (row_section file ok fits) in
+        let n_is = has.n_is in
         let long = filled_long (row_at of (row_records file)) (records (row_records file)) rows in
         rw (sensors_pass, links_pass, count_passes, rows_pass, losses_pass, le-ltb (length all_rows) s.n (omega arith)) refl
 
@@ -342,7 +344,5 @@ module _ (file : List ℕ) (ok : Passed file) (fits : Bytes file) where
 
     pub loaded_bytes : (worth : Num → ℕ) → ((v : ℕ) (x : Num) → of v ≡ Some x → worth x ≡ v) → field_bytes worth (file_code file) (file_smax file) s all_rows all_links all_losses ≡ first_records front_count file
     loaded_bytes worth undone =
-        let many = counted file (row_section file ok fits) in
-        let n_is = has.n_is in
-        before_back file ok fits m of worth undone lawful s rows links losses (omega arith) link_room loss_room has
+        before_back file ok fits m of worth undone lawful s rows links losses row_room link_room loss_room has
         ∙ sym (ap (first_records front_count) (sym (parts_are file)) ∙ ap (λ (k : ℕ). take k (front ++ act_records file)) front_long ∙ take-append_seam front (act_records file))
