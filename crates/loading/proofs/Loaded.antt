@@ -2,7 +2,7 @@
 use Rattle.std.proofs.Common.{◌≡◌, ℕ, zero, suc, ◌+◌, ◌-◌, ◌*◌, ◌<◌, ◌≤◌, ◌⊎◌, inl, inr, Bool, true, false, not, ◌&&◌, ◌||◌, eqb, ltb, List, [], ◌∷◌, ◌++◌, length, take, Some, None, Ok, Option, sym, refl, ap, ◌∙◌, arith, le-leb, length-append, length-take}
 use Rattle.std.specs.List.{slice_get}
 use Rattle.std.proofs.Math.Seq.{take-append_seam}
-use Rattle.std.proofs.lemmas.Bool.{and_from, and_parts, cases_order, eqb-true, le-ltb, not-false, not_from_true, or_from, or_parts}
+use Rattle.std.proofs.lemmas.Bool.{and_from, and_parts, and_right, cases_order, eqb-true, le-ltb, not-false, not_from_true, or_from, or_parts}
 use Rattle.std.proofs.lemmas.List.{length-take-le}
 use Rattle.std.proofs.lemmas.Option.{same_Some, slice_get_within}
 use Rattle.numbering.specs.Meaning.{Meaning}
@@ -58,7 +58,7 @@ module _ {A : Type 0} where
   first_at (suc count) (y ∷ items) (suc i) h = first_at count items i (omega arith)
 
   -- a test that holds of no item holds at no place
-  none_of : (test : A → Bool) (items : List A) (k : ℕ) → ((x : A) → slice_get items k ≡ Some x → test x ≡ false) → holds_at test items k ≡ false
+  pub none_of : (test : A → Bool) (items : List A) (k : ℕ) → ((x : A) → slice_get items k ≡ Some x → test x ≡ false) → holds_at test items k ≡ false
   none_of test items k fails = by (slice_get items k) refl
     where
       by : (o : Option A) → slice_get items k ≡ o → elim o [ None ↦ false | Some x ↦ test x ] ≡ false
@@ -249,10 +249,6 @@ module _ (file : List ℕ) (ok : Passed file) (fits : Bytes file) where
         let one = link_one k x there in
         or_from (not (link_keeps x)) (linked all_links k x.from x.to) (rw (← one.1) (link_right k one.0).0) (rw (← one.1) (not_before k one.0)))
 
-    no_more : (b c : Bool) → c ≡ false → (b && c) ≡ false
-    no_more true c e = e
-    no_more false c e = refl
-
     count_passes : fault_in seen Count ≡ Ok tt
     count_passes = case_passes seen Count λ k h.
         let links_most = few_links in
@@ -260,8 +256,8 @@ module _ (file : List ℕ) (ok : Passed file) (fits : Bytes file) where
         let links_many = link_count in
         let losses_many = loss_count in
         or_from _ _
-        (no_more (eqb k 1024) (ltb 1024 (length all_links)) (le-ltb 1024 (length all_links) (omega (arith, length-take (records (link_records file)) (links_filled (link_records file) links)))))
-        (no_more (eqb k 256) (ltb 256 (length all_losses)) (le-ltb 256 (length all_losses) (omega (arith, length-take (records (loss_records file)) (losses_filled (loss_records file) losses)))))
+        (and_right (eqb k 1024) (ltb 1024 (length all_links)) (le-ltb 1024 (length all_links) (omega (arith, length-take (records (link_records file)) (links_filled (link_records file) links)))))
+        (and_right (eqb k 256) (ltb 256 (length all_losses)) (le-ltb 256 (length all_losses) (omega (arith, length-take (records (loss_records file)) (losses_filled (loss_records file) losses)))))
 
     -- a lawful number is there for each value of a row
     number_there : (v : ℕ) → lawful_of m of v ≡ true → (x : Num) × (of v ≡ Some x) × (m.lawful x ≡ true)
@@ -290,7 +286,7 @@ module _ (file : List ℕ) (ok : Passed file) (fits : Bytes file) where
         let same = same_Some _ _ (sym own ∙ there) in
         let b : (at : ℕ) → at < 12 → byte sec k at ≡ byte file (1 + k) at = λ at. section.bytes k at inside in
         let clock : clock_keeps s.hmax s.tmax s.f k (two_bytes sec k 4) (mark_at sec k) ≡ true =
-            rw (has.hmax_is, has.tmax_is, has.f_is, b 2 (omega arith), b 4 (omega arith), b 5 (omega arith)) (rw place at both.0) in
+        rw (has.hmax_is, has.tmax_is, has.f_is, b 2 (omega arith), b 4 (omega arith), b 5 (omega arith)) (rw place at both.0) in
         rw (← same) (and_from (clock_keeps s.hmax s.tmax s.f k (two_bytes sec k 4) (mark_at sec k)) (m.lawful number.0 && true) clock (and_from (m.lawful number.0) true number.2 refl))
 
     rows_pass : fault_in seen Rows ≡ Ok tt
