@@ -13,7 +13,7 @@ use Rattle.history.specs.Histories.{Call, history, OnceBegun}
 use Rattle.history.specs.Limits.{LinksKeep, InLimits}
 use Rattle.history.specs.Plays.{open_events}
 use Rattle.history.specs.Plays.Event.{Opens, Begins}
-use Rattle.history.specs.Settled.{SettledFloods, FloodsSettle, BeginsUnmarked, CarryNumber}
+use Rattle.history.specs.Settled.{SettledFloods, Followed, FloodsSettle, SettleWithin, BeginsUnmarked, CarryNumber}
 use Rattle.history.specs.Worlds.{Field, Lent, World}
 use Rattle.history.proofs.Checks.{opening_gives, links_kept}
 use Rattle.history.proofs.Keeping.{RowKept, row_kept}
@@ -26,7 +26,7 @@ use Rattle.history.proofs.Running.{RowsTell, FloodsTell, Tell, wait_tells, begin
 use Rattle.history.proofs.Tales.{Known, Left}
 use Rattle.history.proofs.TalesSettle.{flood_within, settled}
 use Rattle.history.proofs.Told.{EachRow}
-use Rattle.numbering.specs.Meaning.{Meaning, KeepsLawful}
+use Rattle.numbering.specs.Meaning.{Meaning, KeepsLawful, Settles}
 
 -- Floods by their places.
 module _ {Num : Type 0} where
@@ -217,3 +217,12 @@ floods_settle field lawful rows senders world e period carries periods calls =
     let lent : Lent _ = record { field = field; period = period; carries = carries } in
     told_settle field lawful (floods_told (history lent calls world).events)
     (history_tells lent lawful periods (links_kept field rows senders world e) world (begun_in_limits field rows senders world e) calls)
+
+-- of a settling numbering's own figures
+pub settle_within : {Num : Type 0} (G : ℕ) (C : Num → Num → ℕ) (field : Field Num) → Settles field.numbering G C → (start : World Num) → FloodsSettle field start → SettleWithin G C field start
+unfolding FloodsSettle SettleWithin
+settle_within G C field settles start settle period carries periods calls sensor first own source is_sensor begins own_there source_there =
+    let settled = settle period carries periods calls in
+    let followed : Followed field.numbering field.settings.n _ G C sensor =
+    record { settles = settles; is_sensor = is_sensor; first = first; begins = begins; own = own; base = source; own_there = own_there; base_there = source_there } in
+    (settled.holds_latest G C sensor followed, settled.accepts_first G C sensor followed)

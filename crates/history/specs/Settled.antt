@@ -76,3 +76,12 @@ pub record SettledFloods {Num : Type 0} (m : Meaning Num) (n : ℕ) (floods : Li
 -- In every run, of the floods since the last damage, those after the first settle.
 unfoldable pub FloodsSettle : {Num : Type 0} → Field Num → World Num → Type 0
 FloodsSettle field start = InEveryRun field start (λ lent went. SettledFloods field.numbering field.settings.n (without_first (floods_told went.events)))
+
+-- So they do within this patience and this catch-up count: every sensor holds the latest at the end of the first C, and accepts after them.
+unfoldable pub SettleWithin : {Num : Type 0} → ℕ → (Num → Num → ℕ) → Field Num → World Num → Type 0
+SettleWithin {Num} G C field start =
+    InEveryRun field start (λ lent went.
+    let floods = without_first (floods_told went.events) in
+    (sensor : ℕ) (first : Flood Num) (own base : Row Num) → sensor < field.settings.n
+    → flood_at floods 0 ≡ Some first → slice_get first.before sensor ≡ Some own → slice_get first.before 0 ≡ Some base
+    → HoldsLatest floods sensor G (C own.held base.held) × AcceptsAfter floods sensor G (C own.held base.held))

@@ -2,7 +2,7 @@
 use Rattle.std.proofs.Common.{◌≡◌, ℕ, zero, suc, ◌+◌, ◌-◌, ◌*◌, ◌<◌, ◌≤◌, ◌⊎◌, inl, inr, Bool, true, false, not, ◌&&◌, ◌||◌, eqb, ltb, List, [], ◌∷◌, ◌++◌, length, take, Some, None, Ok, Option, sym, refl, ap, ◌∙◌, arith, le-leb, length-append, length-take}
 use Rattle.std.specs.List.{slice_get}
 use Rattle.std.proofs.Math.Seq.{take-append_seam}
-use Rattle.std.proofs.lemmas.Bool.{and_from, and_parts, cases_order, eqb-true, le-ltb, not-false, not_from_true, or_from, or_parts}
+use Rattle.std.proofs.lemmas.Bool.{and_from, and_parts, and_right, cases_order, eqb-true, le-ltb, not-false, not_from_true, or_from, or_parts}
 use Rattle.std.proofs.lemmas.List.{length-take-le}
 use Rattle.std.proofs.lemmas.Option.{same_Some, slice_get_within}
 use Rattle.numbering.specs.Meaning.{Meaning}
@@ -58,7 +58,7 @@ module _ {A : Type 0} where
   first_at (suc count) (y ∷ items) (suc i) h = first_at count items i (omega arith)
 
   -- a test that holds of no item holds at no place
-  none_of : (test : A → Bool) (items : List A) (k : ℕ) → ((x : A) → slice_get items k ≡ Some x → test x ≡ false) → holds_at test items k ≡ false
+  pub none_of : (test : A → Bool) (items : List A) (k : ℕ) → ((x : A) → slice_get items k ≡ Some x → test x ≡ false) → holds_at test items k ≡ false
   none_of test items k fails = by (slice_get items k) refl
     where
       by : (o : Option A) → slice_get items k ≡ o → elim o [ None ↦ false | Some x ↦ test x ] ≡ false
@@ -180,7 +180,7 @@ module _ (file : List ℕ) (ok : Passed file) (fits : Bytes file) where
   module _ {Num : Type 0} (m : Meaning Num) (of : ℕ → Option Num)
       (lawful : (v : ℕ) → lawful_value (file_code file) (file_smax file) v ≡ lawful_of m of v)
       (s : Settings) (has : FilesSettings file s) (rows : List (Row Num)) (links : List Linked) (losses : List Lost)
-      (row_room : s.n ≤ length rows) (link_room : records (link_records file) ≤ length links) (loss_room : records (loss_records file) ≤ length losses) where
+      (row_room : records (row_records file) ≤ length rows) (link_room : records (link_records file) ≤ length links) (loss_room : records (loss_records file) ≤ length losses) where
     abbrev all_rows : List (Row Num)
     all_rows = rows_filled of (row_records file) rows
 
@@ -249,10 +249,6 @@ module _ (file : List ℕ) (ok : Passed file) (fits : Bytes file) where
         let one = link_one k x there in
         or_from (not (link_keeps x)) (linked all_links k x.from x.to) (rw (← one.1) (link_right k one.0).0) (rw (← one.1) (not_before k one.0)))
 
-    no_more : (b c : Bool) → c ≡ false → (b && c) ≡ false
-    no_more true c e = e
-    no_more false c e = refl
-
     count_passes : fault_in seen Count ≡ Ok tt
     count_passes = case_passes seen Count λ k h.
         let links_most = few_links in
@@ -260,8 +256,8 @@ module _ (file : List ℕ) (ok : Passed file) (fits : Bytes file) where
         let links_many = link_count in
         let losses_many = loss_count in
         or_from _ _
-        (no_more (eqb k 1024) (ltb 1024 (length all_links)) (le-ltb 1024 (length all_links) (omega (arith, length-take (records (link_records file)) (links_filled (link_records file) links)))))
-        (no_more (eqb k 256) (ltb 256 (length all_losses)) (le-ltb 256 (length all_losses) (omega (arith, length-take (records (loss_records file)) (losses_filled (loss_records file) losses)))))
+        (and_right (eqb k 1024) (ltb 1024 (length all_links)) (le-ltb 1024 (length all_links) (omega (arith, length-take (records (link_records file)) (links_filled (link_records file) links)))))
+        (and_right (eqb k 256) (ltb 256 (length all_losses)) (le-ltb 256 (length all_losses) (omega (arith, length-take (records (loss_records file)) (losses_filled (loss_records file) losses)))))
 
     -- a lawful number is there for each value of a row
     number_there : (v : ℕ) → lawful_of m of v ≡ true → (x : Num) × (of v ≡ Some x) × (m.lawful x ≡ true)
@@ -290,7 +286,7 @@ module _ (file : List ℕ) (ok : Passed file) (fits : Bytes file) where
         let same = same_Some _ _ (sym own ∙ there) in
         let b : (at : ℕ) → at < 12 → byte sec k at ≡ byte file (1 + k) at = λ at. section.bytes k at inside in
         let clock : clock_keeps s.hmax s.tmax s.f k (two_bytes sec k 4) (mark_at sec k) ≡ true =
-            rw (has.hmax_is, has.tmax_is, has.f_is, b 2 (omega arith), b 4 (omega arith), b 5 (omega arith)) (rw place at both.0) in
+        rw (has.hmax_is, has.tmax_is, has.f_is, b 2 (omega arith), b 4 (omega arith), b 5 (omega arith)) (rw place at both.0) in
         rw (← same) (and_from (clock_keeps s.hmax s.tmax s.f k (two_bytes sec k 4) (mark_at sec k)) (m.lawful number.0 && true) clock (and_from (m.lawful number.0) true number.2 refl))
 
     rows_pass : fault_in seen Rows ≡ Ok tt
@@ -317,6 +313,8 @@ module _ (file : List ℕ) (ok : Passed file) (fits : Bytes file) where
     -- so it is a field
     pub loaded_vets : vetted m s all_rows all_links all_losses ≡ Ok tt
     loaded_vets =
+        let many = counted file (row_section file ok fits) in
+        let n_is = has.n_is in
         let long = filled_long (row_at of (row_records file)) (records (row_records file)) rows in
         rw (sensors_pass, links_pass, count_passes, rows_pass, losses_pass, le-ltb (length all_rows) s.n (omega arith)) refl
 
@@ -342,7 +340,5 @@ module _ (file : List ℕ) (ok : Passed file) (fits : Bytes file) where
 
     pub loaded_bytes : (worth : Num → ℕ) → ((v : ℕ) (x : Num) → of v ≡ Some x → worth x ≡ v) → field_bytes worth (file_code file) (file_smax file) s all_rows all_links all_losses ≡ first_records front_count file
     loaded_bytes worth undone =
-        let many = counted file (row_section file ok fits) in
-        let n_is = has.n_is in
-        before_back file ok fits m of worth undone lawful s rows links losses (omega arith) link_room loss_room has
+        before_back file ok fits m of worth undone lawful s rows links losses row_room link_room loss_room has
         ∙ sym (ap (first_records front_count) (sym (parts_are file)) ∙ ap (λ (k : ℕ). take k (front ++ act_records file)) front_long ∙ take-append_seam front (act_records file))

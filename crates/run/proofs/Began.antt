@@ -4,7 +4,7 @@ use Rattle.std.proofs.lemmas.Bool.{or_parts, ltb-false}
 use Rattle.checking.proofs.Passes.{first_passes, second_passes, in_field_passes}
 use Rattle.field.specs.declared.Row.{Row}
 use Rattle.field.specs.declared.Stage.TheVariants.{Beginning}
-use Rattle.std.specs.Prelude.{[]}
+use Rattle.std.specs.Prelude.{[], IfOk}
 use Rattle.refusal.specs.Carried.{in_field}
 use Rattle.vetting.proofs.Vets.{case_nowhere}
 use Rattle.vetting.specs.Cases.{fault_in, first_fault}
@@ -12,17 +12,20 @@ use Rattle.vetting.specs.declared.MemoryCase.TheVariants.{Sensors, Links, Count,
 use Rattle.vetting.specs.declared.Named.TheVariants.{Nothing}
 use Rattle.history.specs.Checks.{checked_first, of_beginnings, seen_at}
 use Rattle.history.specs.Calls.{begun}
-use Rattle.history.specs.Settled.{FloodsSettle}
+use Rattle.history.specs.Settled.{FloodsSettle, SettleWithin}
 use Rattle.history.specs.Worlds.{Field, Lent, World}
 use Rattle.history.proofs.Counted.{counts_tell}
-use Rattle.history.proofs.Floods.{floods_settle}
+use Rattle.history.proofs.Floods.{floods_settle, settle_within}
 use Rattle.history.proofs.Limits.{checks_stay, limits_are_kept}
 use Rattle.history.proofs.OneByOne.{play_is_its_calls}
 use Rattle.history.proofs.PlayLaws.{call_laws, play_laws}
 use Rattle.history.proofs.Unread.{not_read}
-use Rattle.numbering.specs.Meaning.{KeepsLawful}
+use Rattle.numbering.specs.Meaning.{KeepsLawful, Settles}
 use Rattle.refusal.specs.declared.RunFault.{RunFault}
 use Rattle.run.specs.Answers.{Beginning as BeginAnswer, began}
+use Rattle.run.specs.Standing.{between}
+use Rattle.run.specs.declared.lending.Lent.{Lent as Lending}
+use Rattle.run.specs.declared.states.Idle.{Idle}
 use Rattle.run.specs.Laws.{RunLaws}
 
 -- no more links are told than a field may have
@@ -59,3 +62,10 @@ module _
         let lent : Lent Num = record { field = field; period = period; carries = carries } in
         record { checks = checks_stay field.numbering lawful lent refl periods; plays = play_laws lent; answers = call_laws lent; unread = not_read lent };
   }
+
+-- what a run that begun settles within, where the numbering settles
+pub begun_within :
+    {N D A Num : Type 0} (G : ℕ) (C : Num → Num → ℕ) (field : Field Num) → Settles field.numbering G C → (lent : Lending N D A Num) (result : Result Idle RunFault)
+    → IfOk result (λ run. FloodsSettle field (between run lent)) → IfOk result (λ run. SettleWithin G C field (between run lent))
+begun_within G C field settles lent (Ok run) settle = settle_within G C field settles (between run lent) settle
+begun_within G C field settles lent (Err fault) settle = tt

@@ -1,7 +1,7 @@
 -- A field that could be written begins, and is written then as it was lent. Assumes nothing.
-use Rattle.std.proofs.Common.{◌≡◌, ℕ, zero, suc, ◌<◌, ◌≤◌, true, false, not, ◌&&◌, ◌||◌, eqb, ltb, Bool, List, [], ◌∷◌, ◌++◌, length, take, Some, None, Ok, Option, sym, refl, ap, arith}
+use Rattle.std.proofs.Common.{◌≡◌, ℕ, zero, suc, ◌<◌, ◌≤◌, true, not, ◌||◌, eqb, ltb, List, [], ◌∷◌, ◌++◌, length, take, Some, None, Ok, Option, sym, refl, ap, arith}
 use Rattle.std.specs.List.{slice_get}
-use Rattle.std.proofs.lemmas.Bool.{and_from, and_parts, le-ltb, not_from_true, or_from}
+use Rattle.std.proofs.lemmas.Bool.{and_from, and_parts, and_right, le-ltb, not_from_true, or_from}
 use Rattle.std.proofs.lemmas.List.{length-take-le}
 use Rattle.checking.proofs.Passes.{false_true}
 use Rattle.field.specs.declared.Loss.{Loss}
@@ -14,6 +14,7 @@ use Rattle.history.specs.Calls.{begun, none_yet}
 use Rattle.history.specs.Checks.{checked_first, seen_at}
 use Rattle.history.specs.Worlds.{Field, World, told_links}
 use Rattle.history.proofs.Kept.{granted_first, granted_ok, ok_is}
+use Rattle.loading.proofs.Loaded.{none_of}
 use Rattle.page.specs.Pages.{joined}
 use Rattle.recording.specs.Bytes.{field_bytes}
 use Rattle.recording.specs.Records.{row_record}
@@ -42,18 +43,6 @@ module _ {A : Type 0} where
   changed_none change place n [] same = refl
   changed_none change place zero (x ∷ xs) same = refl
   changed_none change place (suc n) (x ∷ xs) same = rw (same 0 x (omega arith) refl, changed_none change (suc place) n xs (λ k y h e. same (suc k) y (omega arith) e)) refl
-
-  -- a test that holds of no item holds at no place
-  none_of : (test : A → Bool) (items : List A) (k : ℕ) → ((x : A) → slice_get items k ≡ Some x → test x ≡ false) → holds_at test items k ≡ false
-  none_of test items k fails = by (slice_get items k) refl
-    where
-      by : (o : Option A) → slice_get items k ≡ o → elim o [ None ↦ false | Some x ↦ test x ] ≡ false
-      by None there = refl
-      by (Some x) there = fails x there
-
-no_more : (b c : Bool) → c ≡ false → (b && c) ≡ false
-no_more true c e = e
-no_more false c e = refl
 
 module _ {Num : Type 0} (field : Field Num) (rows : List (Row Num)) (senders : List ℕ) (world : World Num) (begins : begun field rows senders ≡ Ok world) where
   -- the rows of a run that begins are the lent ones, closed
@@ -102,7 +91,7 @@ module _
   count_passes = case_passes seen Count λ k h.
       let all = length-take-le field.count field.links links_there in
       let few = known.few_links in
-      or_from _ _ (no_more (eqb k 1024) (ltb 1024 field.count) (le-ltb 1024 field.count (omega arith))) (no_more (eqb k 256) (ltb 256 0) refl)
+      or_from _ _ (and_right (eqb k 1024) (ltb 1024 field.count) (le-ltb 1024 field.count (omega arith))) (and_right (eqb k 256) (ltb 256 0) refl)
 
   rows_pass : fault_in seen Rows ≡ Ok tt
   rows_pass = case_passes seen Rows λ k h.

@@ -35,7 +35,7 @@ module _ {Num : Type 0} where
       append_one : (front : List (TakenCopy Num)) (copy : TakenCopy Num) (rest : List (TakenCopy Num)) → front ++ (copy ∷ rest) ≡ (front ++ copy ∷ []) ++ rest
       append_one front copy rest = sym (append_assoc front (copy ∷ []) rest)
 
-  logged_none : (log : List (TakenCopy Num)) (used : ℕ) → logged log used [] ≡ log
+  pub logged_none : (log : List (TakenCopy Num)) (used : ℕ) → logged log used [] ≡ log
   logged_none log used = rw (append-nil (take used log), add-zero used) (take-append-drop used log)
 
 pub no_copy : {A : Type 0} (o : Option A) → ((x : A) → o ≡ Some x → ⊥) → o ≡ None

@@ -5,4 +5,7 @@ mod Loans
 mod Onward
 mod Playing
 mod Returning
+mod Sending
 mod Taking
+mod Trying
+mod Whole

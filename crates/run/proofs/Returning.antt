@@ -28,7 +28,7 @@ module _
   gives_back s file is rows links losses senders long =
       let ok = passed file (ap is_ok is.passes) in
       let own : (v : ℕ) → lawful_value (file_code file) (file_smax file) v ≡ lawful_of m filing.of v =
-          λ v. ap (λ (k : ℕ). lawful_value k (file_smax file) v) (sym is.code_is) ∙ ap (λ (k : ℕ). lawful_value filing.code k v) (sym is.smax_is) ∙ values v in
+      λ v. ap (λ (k : ℕ). lawful_value k (file_smax file) v) (sym is.code_is) ∙ ap (λ (k : ℕ). lawful_value filing.code k v) (sym is.smax_is) ∙ values v in
       let field = filled_field m s file links in
       let all = filled_rows filing file rows in
       let lost = filled_losses file losses in

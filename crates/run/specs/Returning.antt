@@ -35,7 +35,7 @@ before_acts file = let c = counted file in first_records (1 + c.rows + c.links +
 
 -- Buffers that are long enough for it.
 pub record LongEnough {Num : Type 0} (s : Settings) (file : List ℕ) (rows : List (Row Num)) (links : List Link) (losses : List Loss) (senders : List ℕ) : Type 0 where
-  pub of_rows : s.n ≤ length rows
+  pub of_rows : (counted file).rows ≤ length rows
   pub of_links : (counted file).links ≤ length links
   pub of_losses : (counted file).losses ≤ length losses
   pub of_senders : s.n ≤ length senders

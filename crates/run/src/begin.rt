@@ -1,7 +1,7 @@
 // How a run begins, and what is true of it from there on.
 ghost use Rattle.std.specs.Prelude.{◌≡◌, IfOk};
 ghost use Rattle.history.specs.Calls.{begun};
-ghost use Rattle.history.specs.Settled.{FloodsSettle};
+ghost use Rattle.history.specs.Settled.{FloodsSettle, SettleWithin};
 ghost use Rattle.run.specs.Laws.{RunLaws};
 ghost use Rattle.run.specs.Answers.{began, begun_as};
 ghost use Rattle.run.specs.Standing.{SameLoans, between, field_told};
@@ -11,7 +11,7 @@ use crate::lending::Lent;
 use crate::states::{Idle, Progress};
 use field::Settings;
 use flood::{close_rows, silence};
-use numbering::Numbering;
+use numbering::{Numbering, Settling};
 use refusal::RunFault;
 
 impl Idle {
@@ -43,5 +43,19 @@ impl Idle {
                 accepted: 0,
             },
         })
+    }
+
+    /// Begins a run under a settling numbering, as `begin` does: floods then settle within the numbering's own patience and catch-up
+    /// count (`within`).
+    pub fn begin_settling<N: Settling, D, A>(
+        settings: Settings,
+        count: usize,
+        lent: &mut Lent<N, D, A>,
+    ) -> Result<Idle, RunFault>
+        ensures value { begun_as lent.new result ≡ began lent.old.rows.now lent.old.senders.now (begun (field_told N.Numbering.meaning settings count lent.old) lent.old.rows.now lent.old.senders.now) }
+        ensures lent { SameLoans lent.old lent.new }
+        ensures within { let numbering = lent.old.numbering.now in IfOk result (λ run. SettleWithin (N.Settling.patience numbering) (N.Settling.catchup numbering) (field_told N.Numbering.meaning settings count lent.old) (between run lent.new)) }
+    {
+        Idle::begin(settings, count, lent)
     }
 }

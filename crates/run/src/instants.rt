@@ -73,6 +73,9 @@ impl Progress {
         ensures value { let world = stands self.old None lent.old in stands self.new (Some 0) lent.new ≡ record (world_opened (given N.Numbering.meaning D.DelayRule.period A.Air.carries self.old lent.old) world) { senders = lent.old.senders.now } }
         ensures sends { result ≡ any_sends self.old.settings.n lent.new.rows.now }
         ensures copies { self.new.copies ≡ self.old.copies }
+        ensures settings { self.new.settings ≡ self.old.settings }
+        ensures links { self.new.count ≡ self.old.count }
+        ensures instant { self.new.instant ≡ self.old.instant + 1 }
         ensures lent { SameLoans lent.old lent.new }
     {
         self.instant += 1;

@@ -107,7 +107,7 @@ impl Idle {
         Ok(self.play_instant(lent, log, used))
     }
 
-    // One whole instant: open, every copy, and close. Where no sensor sends, nothing more is gone over.
+    // One whole instant: open, every copy, and close.
     fn play_instant<N: Numbering, D: DelayRule, A: Air>(
         &mut self,
         lent: &mut Lent<N, D, A>,
@@ -122,12 +122,7 @@ impl Idle {
         ensures lent { SameLoans lent.old lent.new }
     {
         let mut progress = self.progress;
-        let sends = progress.open_rows(lent);
-        let rows = if sends {
-            progress.pass_copies(lent, log, used)
-        } else {
-            used
-        };
+        let rows = progress.pass_instant(lent, log, used);
         self.progress = progress;
         rows
     }
@@ -209,5 +204,28 @@ impl Progress {
         close_rows(n, &mut *lent.rows);
         silence(n, &mut *lent.senders);
         rows
+    }
+
+    // A whole instant. Where no sensor sends, nothing more is gone over once it is open.
+    fn pass_instant<N: Numbering, D: DelayRule, A: Air>(
+        &mut self,
+        lent: &mut Lent<N, D, A>,
+        log: &mut [TakenCopy<N::Number>],
+        used: usize,
+    ) -> usize
+        requires copies { self.old.copies + 1024 < 18446744073709551616 }
+        requires checked { checked (field_given N.Numbering.meaning self.old lent.old) Nothing Between lent.old.rows.now lent.old.senders.now ≡ Ok tt }
+        requires opens { can_open (field_given N.Numbering.meaning self.old lent.old) (stands self.old None lent.old) ≡ Ok tt }
+        requires room { used + length (copies_in (instant_gone (given N.Numbering.meaning D.DelayRule.period A.Air.carries self.old lent.old) (stands self.old None lent.old)).events) ≤ length log.old }
+        ensures value { InstantPlayed (given N.Numbering.meaning D.DelayRule.period A.Air.carries self.old lent.old) used (stands self.old None lent.old) (stands self.new None lent.new) log.old log.new result }
+        ensures holds { given N.Numbering.meaning D.DelayRule.period A.Air.carries self.new lent.new ≡ given N.Numbering.meaning D.DelayRule.period A.Air.carries self.old lent.old }
+        ensures copies { self.new.copies ≤ self.old.copies + 1024 }
+        ensures instant { self.new.instant ≡ self.old.instant + 1 }
+        ensures lent { SameLoans lent.old lent.new }
+    {
+        if !self.open_rows(lent) {
+            return used;
+        }
+        self.pass_copies(lent, log, used)
     }
 }

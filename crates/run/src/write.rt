@@ -13,13 +13,14 @@ use vetting::Draft;
 use writing::write_field;
 
 impl Idle {
-    /// Writes the field as it stands to the front of a page, and answers how many bytes it has: the run's settings, the rows of its
-    /// n sensors, the told links, and these losses, in their order. Loading gives the same field of them (`same`); no sender byte is
-    /// looked at.
+    /// Writes the field as it stands to the front of a page, and answers how many bytes that are: the run's settings, the rows of its
+    /// n sensors, the told links, and these losses, in their order. What is written loads as that field (`same`); no sender byte is
+    /// looked at. A file that is loaded, begun and then written gives its bytes before its first act (`laws`).
     ///
-    /// Looked for are 6 to 10 in what is there, each everywhere before the next, at the lowest place of a link or a loss, a row, or a
-    /// loss; then 11, where there are fewer rows than n or fewer links than were told; then 15, where the page has no room for them.
-    /// A refusal leaves the page as it was, and what lies behind the bytes stays.
+    /// Looked for are 6 to 10 in what is there, each everywhere before the next, and the lowest place is told: of a link or a loss
+    /// (6), a link (7), the 257th loss (8), a sensor's row (9), a loss (10). Then come 11, where rows are fewer than n or links fewer
+    /// than were told, and 15, where the page has no room, both at place 0. A refusal leaves the page as it was, and what lies behind
+    /// the bytes stays.
     pub fn write<N: Filed, D, A>(
         &self,
         lent: &Lent<N, D, A>,
