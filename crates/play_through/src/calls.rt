@@ -1,4 +1,4 @@
-// A field played call by call, under any numbering, delay rule and air.
+// A field played call by call, under any settling numbering, delay rule and air.
 
 use crate::failure::Failure;
 use crate::telling::{self, Refusal};
@@ -6,7 +6,7 @@ use air::{Air, DelayRule};
 use field::{Damage, Settings};
 use flood::Verdict;
 use history::{Ending, TakenCopy};
-use numbering::Numbering;
+use numbering::{Numbering, Settling};
 use run::{Declined, Idle, Instant, Lent};
 
 // How many instants are opened and closed one by one, and how many are played then.
@@ -15,12 +15,12 @@ const BY_HAND: u32 = 9;
 const PLAYED: u32 = 12;
 
 // Plays a field of three sensors from its beginning, by each call of a run but write and finish.
-pub fn play_by_calls<N: Numbering, D: DelayRule, A: Air>(
+pub fn play_by_calls<N: Settling, D: DelayRule, A: Air>(
     rt: &HostRuntime,
     settings: Settings,
     lent: &mut Lent<N, D, A>,
 ) -> Result<Idle, Failure> {
-    let run = Idle::begin(settings, lent.links.len(), lent)?;
+    let run = Idle::begin_settling(settings, lent.links.len(), lent)?;
     println!(rt; "begin: granted")?;
     look_at_all(rt, &run, lent)?;
     let mut run = first_instant(rt, run, lent)?;

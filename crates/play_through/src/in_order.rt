@@ -19,7 +19,7 @@ pub fn play_in_order<N: Filed, D: DelayRule, A: Air>(
     let _copy = instant.carry(lent)?;
     let mut run = instant.close(lent)?;
     run.damage(lent, damage)?;
-    let _row = run.look(lent, damage.sensor)?;
+    let _row = run.look(lent, 0)?;
     let _played = run.play(lent, 1, &mut []);
     let _size = run.write(lent, &[], page)?;
     let counts = run.finish(lent)?;
