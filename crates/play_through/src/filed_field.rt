@@ -34,6 +34,8 @@ pub fn play_file(rt: &HostRuntime, file: &[u8]) -> Result<(), Failure> {
     }
 }
 
+// Kept out of line: with it four times in one function the kit's clang crashes.
+#[inline(never)]
 fn play_field<N: Filed>(
     rt: &HostRuntime,
     field: &FileUnder<N>,
