@@ -20,7 +20,8 @@ pub fn play_in_order<N: Filed, D: DelayRule, A: Air>(
     let mut run = instant.close(lent)?;
     run.damage(lent, damage)?;
     let _row = run.look(lent, 0)?;
-    let _played = run.play(lent, 1, &mut []);
+    let mut log = [];
+    let _played = run.play(lent, 1, &mut log);
     let _size = run.write(lent, &[], page)?;
     let counts = run.finish(lent)?;
     Ok(counts)
