@@ -44,13 +44,13 @@ module _ {Num : Type 0} where
   -- Where a run stands as it begins: no message is outgoing, no byte sends, and instant 1 is to come.
   abbrev pub beginning : Field Num → List (Row Num) → List ℕ → World Num
   beginning field rows senders = record {
-      settings = field.settings;
-      count = field.count;
-      rows = closed field.settings.n rows;
-      senders = silent field.settings.n senders;
-      instant = 0;
-      position = None;
-      counts = none_yet;
+    settings = field.settings;
+    count = field.count;
+    rows = closed field.settings.n rows;
+    senders = silent field.settings.n senders;
+    instant = 0;
+    position = None;
+    counts = none_yet;
   }
 
   abbrev pub begun : Field Num → List (Row Num) → List ℕ → Result (World Num) RunFault
