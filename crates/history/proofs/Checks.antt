@@ -7,21 +7,19 @@ use Rattle.std.proofs.lemmas.Option.{slice_get_within}
 use Rattle.std.specs.Result.{result_and}
 use Rattle.checking.proofs.Passes.{first_passes, second_passes, in_field_passes}
 use Rattle.field.specs.declared.Damage.{Damage}
-use Rattle.field.specs.declared.Link.{Link}
 use Rattle.field.specs.declared.Row.{Row}
 use Rattle.field.specs.declared.Stage.{Stage}
 use Rattle.field.specs.declared.Stage.TheVariants.{Beginning, Between}
 use Rattle.field.specs.Rows.{ends_within, link_keeps, row_keeps}
 use Rattle.field.specs.Rows.{sender_byte}
-use Rattle.flood.specs.Instants.{byte_of}
 use Rattle.refusal.specs.Carried.{in_field}
 use Rattle.refusal.specs.declared.FieldFault.{FieldFault}
 use Rattle.refusal.specs.declared.RunFault.TheVariants.{ShortBuffer, LastInstant, NoNumber}
 use Rattle.vetting.proofs.Vets.{case_nowhere, case_passes, enough, not_of}
-use Rattle.vetting.specs.Cases.{Seen, bad_byte, bad_damage, bad_link, bad_row, breaks_limits, declines_where, fault_in, first_fault, holds_at, linked, named_places, no_sensor}
+use Rattle.vetting.specs.Cases.{Seen, bad_row, breaks_limits, declines_where, fault_in, holds_at, linked, named_places, no_sensor}
 use Rattle.vetting.specs.declared.MemoryCase.TheVariants.{Sensors, Links, Count, Rows}
 use Rattle.history.specs.Calls.{may_open, begun, no_number, world_opened, opening, damaged_row, world_damaged, damaging}
-use Rattle.history.specs.Checks.{checked, checked_first, of_beginnings, of_calls, seen_at, short_case}
+use Rattle.history.specs.Checks.{checked, checked_first, seen_at, short_case}
 use Rattle.vetting.specs.declared.Named.{Named}
 use Rattle.vetting.specs.declared.Named.TheVariants.{Nothing, Sensor, Damaged}
 use Rattle.history.specs.Limits.{stage_of, LinksKeep, InLimits, Fits}

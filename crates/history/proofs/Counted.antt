@@ -2,7 +2,6 @@
 use Rattle.std.proofs.Common.{◌≡◌, ℕ, ◌+◌, Bool, true, false, cond, not, List, [], ◌∷◌, is_some, Some, None, Ok, Option, count_by, sym, refl, ap, ◌∙◌, subst, arith}
 use Rattle.std.proofs.lemmas.List.Sums.{sum_by-cons}
 use Rattle.field.specs.declared.Message.{Message}
-use Rattle.field.specs.declared.Row.{Row}
 use Rattle.history.proofs.Kept.{Steps, kept, granted_ok, ok_is, opening_is, damaging_is, carried_from}
 use Rattle.flood.specs.Copies.{outgoing_of}
 use Rattle.history.specs.Calls.{AfterCopy, none_yet, counted_open, counted_copy, opening, world_opened, copy_taken, world_closed, world_damaged}

@@ -3,7 +3,6 @@ use Rattle.std.proofs.Common.{◌≡◌, ℕ, suc, true, List, [], ◌∷◌, �
 use Rattle.std.proofs.lemmas.Bool.{and_from}
 use Rattle.std.proofs.lemmas.List.{append_assoc}
 use Rattle.air.specs.Delays.{KeepsPeriods}
-use Rattle.field.specs.declared.Row.{Row}
 use Rattle.numbering.specs.Meaning.{KeepsLawful}
 use Rattle.history.specs.Calls.{AfterCopy, opening, world_opened, next_taken, world_closed}
 use Rattle.history.specs.Histories.{Call, Outcome, called_between, called_within, called, history, moves_on, OnceBegun}

@@ -24,7 +24,7 @@ use Rattle.vetting.specs.declared.MemoryCase.{MemoryCase}
 use Rattle.vetting.specs.declared.MemoryCase.TheVariants.{Sensors, Links, Count, Rows, Losses}
 use Rattle.vetting.specs.declared.Named.{Named}
 use Rattle.vetting.specs.declared.Named.TheVariants.{Nothing, Sensor, Damaged}
-use Rattle.history.specs.Calls.{AfterCopy, begun, carrying, closing, copy_left, copy_over, copy_taken, damaged_row, damaging, looking, may_close, may_open, next_taken, no_number, none_yet, opening, rows_opened, world_closed, world_damaged, world_opened}
+use Rattle.history.specs.Calls.{AfterCopy, beginning, begun, carrying, closing, copy_left, copy_over, copy_taken, damaged_row, damaging, looking, may_close, may_open, next_taken, no_number, opening, rows_opened, world_closed, world_damaged, world_opened}
 use Rattle.history.specs.Checks.{checked, checked_first, seen_at, short_case}
 use Rattle.history.specs.Histories.{Call, Outcome, called, called_between, called_within, moves_on, shows, takes_on}
 use Rattle.history.specs.Histories.Answer.{Granted}
@@ -189,15 +189,7 @@ module _ {Num : Type 0} (lent : Lent Num) where
   begun_same : (rows : List (Row Num)) (senders : List ℕ) → begun told.field (take n rows) (take n senders) ≡ granted first (begun lent.field rows senders)
   begun_same rows senders =
       rw (begin_check_same rows senders, changed_first (λ sensor (row : Row Num). row_closed row) 0 n n rows, changed_first (λ sensor (byte : ℕ). 0) 0 n n senders)
-      (and_granted first (checked_first lent.field rows senders) (Ok (record {
-        settings = lent.field.settings;
-        count = lent.field.count;
-        rows = closed n rows;
-        senders = silent n senders;
-        instant = 0;
-        position = None;
-        counts = none_yet;
-      })))
+      (and_granted first (checked_first lent.field rows senders) (Ok (beginning lent.field rows senders)))
 
   -- without what lies past n: a copy that was taken, what happened, and what an instant, a play and a call come to
   abbrev copy_first : AfterCopy Num → AfterCopy Num

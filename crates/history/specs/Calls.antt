@@ -41,19 +41,20 @@ pub record AfterCopy (Num : Type 0) : Type 0 where
   pub world : World Num
 
 module _ {Num : Type 0} where
-  -- A run as it begins: no message is outgoing, no byte sends, and instant 1 is to come.
+  -- Where a run stands as it begins: no message is outgoing, no byte sends, and instant 1 is to come.
+  abbrev pub beginning : Field Num → List (Row Num) → List ℕ → World Num
+  beginning field rows senders = record {
+    settings = field.settings;
+    count = field.count;
+    rows = closed field.settings.n rows;
+    senders = silent field.settings.n senders;
+    instant = 0;
+    position = None;
+    counts = none_yet;
+  }
+
   abbrev pub begun : Field Num → List (Row Num) → List ℕ → Result (World Num) RunFault
-  begun field rows senders =
-      result_and (checked_first field rows senders)
-      (Ok (record {
-        settings = field.settings;
-        count = field.count;
-        rows = closed field.settings.n rows;
-        senders = silent field.settings.n senders;
-        instant = 0;
-        position = None;
-        counts = none_yet;
-      }))
+  begun field rows senders = result_and (checked_first field rows senders) (Ok (beginning field rows senders))
 
   -- a sensor's row overwritten
   abbrev pub damaged_row : Damage Num → Row Num

@@ -1,6 +1,5 @@
 -- What a run has counted, by what has happened in it. Assumes nothing.
-use Rattle.std.specs.Prelude.{◌≡◌, ℕ, ◌+◌, Bool, true, false, not, List, Ok, count_by}
-use Rattle.field.specs.declared.Row.{Row}
+use Rattle.std.specs.Prelude.{◌≡◌, ◌+◌, Bool, true, false, not, List, Ok, count_by}
 use Rattle.flood.specs.declared.hearing.Verdict.{Verdict}
 use Rattle.history.specs.Calls.{finishing}
 use Rattle.history.specs.Floods.{hears, accepts, refuses}

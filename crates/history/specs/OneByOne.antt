@@ -1,7 +1,6 @@
 -- Play is its calls one by one. Assumes nothing.
 use Rattle.std.specs.Prelude.{◌≡◌, ℕ, Bool, true, false, List, None}
 use Rattle.std.specs.List.{list_all}
-use Rattle.field.specs.declared.Row.{Row}
 use Rattle.history.specs.Histories.{Call, Answer, history, InEveryRun}
 use Rattle.history.specs.Histories.Call.{Open, Carry, Close, Damaging, Look, Play}
 use Rattle.history.specs.Histories.Answer.{Granted, Copied, Shows, Plays, Declines, NotLet}

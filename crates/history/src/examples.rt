@@ -24,3 +24,29 @@ pub fn settling_bites()
 pub fn checked_examples()
     ensures { CheckedExamples }
 {}
+
+#[cfg(test)]
+mod tests {
+    use field::{Message, Row};
+    use flood::{Verdict, take_copy};
+    use numbering::Differentiated;
+    use std::test::Fail;
+
+    #[test]
+    fn a_mark_stays_when_a_copy_of_hop_2_is_accepted(rt: HostRuntime) -> Result<(), Fail> {
+        let Some(differentiated) = Differentiated::new(2) else {
+            return Err(Fail::new("smax 2 is lawful"));
+        };
+        let row = Row {
+            timer: 1,
+            held: 1,
+            mark: Some(1),
+            outgoing: None,
+        };
+        let message = Message { hop: 2, number: 2 };
+        let taken = take_copy(&differentiated, true, message, row);
+        assert!(rt; taken.verdict == Verdict::Accepted && taken.row.held == 2);
+        assert_eq!(rt; taken.row.mark, Some(1));
+        Ok(())
+    }
+}

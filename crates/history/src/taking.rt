@@ -3,7 +3,7 @@
 use flood::Verdict;
 use refusal::RunFault;
 
-// A copy, as it is taken: a row of the log.
+/// A copy, as it was taken: what carry answers, and a row of play's log.
 #[derive(Clone, Copy, PartialEq, Eq, Debug)]
 pub struct TakenCopy<Number> {
     pub instant: u32,
@@ -14,7 +14,7 @@ pub struct TakenCopy<Number> {
     pub verdict: Verdict,
 }
 
-// What has been since a run began. A copy that was forwarded counts as accepted.
+/// What has been since a run began. A copy that was forwarded counts as accepted, so the copies are those lost, refused and accepted.
 #[derive(Clone, Copy, PartialEq, Eq, Debug)]
 pub struct Counts {
     pub instants: u64,
@@ -25,7 +25,7 @@ pub struct Counts {
     pub accepted: u64,
 }
 
-// Why play ended.
+/// Why play ended: its budget is spent; the log has too few free rows for the next instant; or the next instant is refused.
 #[derive(Clone, Copy, PartialEq, Eq, Debug)]
 pub enum Ending {
     BudgetSpent,

@@ -8,7 +8,7 @@ use Rattle.std.specs.Prelude.{[], IfOk}
 use Rattle.refusal.specs.Carried.{in_field}
 use Rattle.vetting.proofs.Vets.{case_nowhere}
 use Rattle.vetting.specs.Cases.{fault_in, first_fault}
-use Rattle.vetting.specs.declared.MemoryCase.TheVariants.{Sensors, Links, Count, Rows}
+use Rattle.vetting.specs.declared.MemoryCase.TheVariants.{Sensors, Links, Count}
 use Rattle.vetting.specs.declared.Named.TheVariants.{Nothing}
 use Rattle.history.specs.Checks.{checked_first, of_beginnings, seen_at}
 use Rattle.history.specs.Calls.{begun}

@@ -10,7 +10,7 @@ use Rattle.field.specs.declared.Row.{Row}
 use Rattle.field.specs.declared.Stage.TheVariants.{Beginning, Between}
 use Rattle.field.specs.Rows.{clock_keeps, ends_within, link_keeps, outgoing_keeps, row_keeps, sender_byte}
 use Rattle.flood.specs.Instants.{changed, closed, row_closed, silent}
-use Rattle.history.specs.Calls.{begun, none_yet}
+use Rattle.history.specs.Calls.{beginning, begun}
 use Rattle.history.specs.Checks.{checked_first, seen_at}
 use Rattle.history.specs.Worlds.{Field, World, told_links}
 use Rattle.history.proofs.Kept.{granted_first, granted_ok, ok_is}
@@ -108,15 +108,7 @@ module _
 
   -- where the run stands as it begins
   abbrev pub start : World Num
-  start = record {
-    settings = field.settings;
-    count = field.count;
-    rows = closed field.settings.n rows;
-    senders = silent field.settings.n senders;
-    instant = 0;
-    position = None;
-    counts = none_yet;
-  }
+  start = beginning field rows senders
 
   pub begins_there : begun field rows senders ≡ Ok start
   begins_there = rw first_passes refl

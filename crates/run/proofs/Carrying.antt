@@ -1,5 +1,5 @@
 -- A loop that takes the copies of an open instant, link by link. Assumes nothing.
-use Rattle.std.proofs.Common.{◌≡◌, ℕ, suc, ◌+◌, ◌<◌, ◌≤◌, Bool, true, false, List, [], ◌∷◌, ◌++◌, length, get_or, set, take, drop, Some, None, Ok, Option, is_some, sym, refl, ap, ◌∙◌, subst, arith, add-one, add-zero, append_assoc, length-append, drop-cons}
+use Rattle.std.proofs.Common.{◌≡◌, ℕ, suc, ◌+◌, ◌<◌, ◌≤◌, Bool, true, false, List, [], ◌∷◌, ◌++◌, length, set, take, drop, Some, None, Ok, Option, is_some, sym, refl, ap, ◌∙◌, subst, arith, add-zero, append_assoc, length-append, drop-cons}
 use Rattle.std.specs.Prelude.{◌-◌, slice_get}
 use Rattle.std.proofs.lemmas.List.{append-nil, length-set, length-take-le, set-append_right, take-append-drop}
 use Rattle.std.proofs.lemmas.Option.{same_Some}
@@ -7,9 +7,9 @@ use Rattle.field.specs.declared.Link.{Link}
 use Rattle.field.specs.declared.Message.{Message}
 use Rattle.field.specs.declared.Row.{Row}
 use Rattle.flood.specs.Copies.{copy_here, message_on}
-use Rattle.history.specs.Calls.{AfterCopy, copy_over, copy_taken, world_closed}
+use Rattle.history.specs.Calls.{AfterCopy, copy_over, copy_taken}
 use Rattle.history.specs.Limits.{LinksKeep}
-use Rattle.history.specs.Plays.{copies_in, copies_taken}
+use Rattle.history.specs.Plays.{copies_in}
 use Rattle.history.specs.Worlds.{Lent, World, told_links}
 use Rattle.history.specs.declared.TakenCopy.{TakenCopy}
 use Rattle.history.proofs.Kept.{some_from}

@@ -8,7 +8,7 @@ use Rattle.field.specs.declared.Stage.TheVariants.{Between}
 use Rattle.numbering.specs.Meaning.{KeepsLawful}
 use Rattle.vetting.specs.declared.Named.TheVariants.{Nothing}
 use Rattle.history.specs.Checks.{checked}
-use Rattle.history.specs.Plays.{Played as PlayedOut, Went, copies_in, playing, tried}
+use Rattle.history.specs.Plays.{copies_in, playing, tried}
 use Rattle.history.specs.Plays.Tried.{Ends, Done}
 use Rattle.history.specs.Worlds.{Lent, World}
 use Rattle.history.specs.declared.Ending.{Ending}

@@ -1,14 +1,9 @@
 -- The next copy is the one over the link at its place. Assumes nothing.
-use Rattle.std.proofs.Common.{◌≡◌, ℕ, suc, ◌+◌, Some, None, Ok, Option, add-one, refl, sym, ap, ◌∙◌}
-use Rattle.field.specs.declared.Link.{Link}
-use Rattle.field.specs.declared.Message.{Message}
-use Rattle.field.specs.declared.Row.{Row}
-use Rattle.flood.specs.Copies.{message_on, next_copy}
+use Rattle.std.proofs.Common.{◌≡◌, ℕ, ◌+◌, Some, None, Ok, Option, add-one, refl, sym, ap}
+use Rattle.flood.specs.Copies.{next_copy}
 use Rattle.history.specs.Calls.{AfterCopy, copy_over, copy_taken, next_taken}
 use Rattle.history.specs.Worlds.{Lent, World, told_links}
 use Rattle.history.specs.declared.TakenCopy.{TakenCopy}
-use Rattle.refusal.specs.declared.RunFault.{RunFault}
-use Rattle.std.specs.Prelude.{slice_get}
 use Rattle.run.specs.Answers.{Answered, answered, onward, taken_on}
 
 module _ {Num : Type 0} (lent : Lent Num) (world : World Num) where

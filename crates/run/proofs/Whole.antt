@@ -1,16 +1,15 @@
 -- A whole instant, as the code works it. Assumes nothing.
-use Rattle.std.proofs.Common.{◌≡◌, ℕ, zero, suc, ◌+◌, ◌<◌, ◌≤◌, Bool, true, false, ◌||◌, List, [], ◌∷◌, ◌++◌, length, take, Some, None, Ok, Option, is_some, sym, refl, ap, ◌∙◌, subst, arith, append-nil, add-zero}
+use Rattle.std.proofs.Common.{◌≡◌, ℕ, zero, suc, ◌+◌, ◌<◌, ◌≤◌, Bool, true, false, ◌||◌, List, [], ◌∷◌, length, take, Some, None, Ok, Option, is_some, sym, refl, ap, ◌∙◌, subst, arith, add-zero}
 use Rattle.std.specs.Prelude.{slice_get}
 use Rattle.std.specs.List.{list_any}
 use Rattle.std.specs.Result.{result_and}
 use Rattle.air.specs.Delays.{KeepsPeriods}
 use Rattle.field.specs.declared.Message.{Message}
 use Rattle.field.specs.declared.Row.{Row}
-use Rattle.field.specs.declared.Stage.TheVariants.{Between, Within}
+use Rattle.field.specs.declared.Stage.TheVariants.{Between}
 use Rattle.flood.specs.Copies.{outgoing_of}
 use Rattle.flood.specs.Instants.{any_sends, sending}
 use Rattle.numbering.specs.Meaning.{KeepsLawful}
-use Rattle.refusal.specs.declared.RunFault.{RunFault}
 use Rattle.vetting.specs.declared.Named.TheVariants.{Nothing}
 use Rattle.history.specs.Calls.{can_open, counted_open, opening, rows_opened, world_closed, world_opened}
 use Rattle.history.specs.Checks.{checked}

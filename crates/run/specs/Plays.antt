@@ -1,5 +1,5 @@
 -- What play answers, and what its log holds. Assumes nothing.
-use Rattle.std.specs.Prelude.{◌≡◌, ℕ, ◌+◌, ◌-◌, ◌≤◌, List, ◌++◌, length, take, drop, Ok, Err, Result}
+use Rattle.std.specs.Prelude.{◌≡◌, ℕ, ◌+◌, ◌-◌, List, ◌++◌, length, take, drop, Ok, Err, Result}
 use Rattle.history.specs.Plays.{Played as PlayedOut, Went, copies_in, copies_taken, instant_gone, tried}
 use Rattle.history.specs.Plays.Tried.{Ends, Done}
 use Rattle.history.specs.Calls.{world_closed}

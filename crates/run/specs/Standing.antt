@@ -1,7 +1,6 @@
 -- From what the code holds to where a run stands in the definitions, and from what is lent. Assumes nothing.
-use Rattle.std.specs.Prelude.{◌≡◌, ℕ, List, Some, None, Option}
+use Rattle.std.specs.Prelude.{◌≡◌, ℕ, Some, None, Option}
 use Rattle.air.specs.Airs.{Carrying}
-use Rattle.field.specs.declared.Row.{Row}
 use Rattle.field.specs.declared.Settings.{Settings}
 use Rattle.flood.specs.Instants.{sending}
 use Rattle.history.specs.Worlds.{Field, Lent as Given, World}

@@ -15,8 +15,13 @@ use numbering::{Numbering, Settling};
 use refusal::RunFault;
 
 impl Idle {
-    /// Begins a run of a field with these settings, of which the first `count` links are told. From there on floods settle,
-    /// whatever calls follow, with whatever delay rule and air (`settles`), and the other laws of runs hold.
+    /// Begins a run of a field with these settings, of which the first `count` links are told: every outgoing message becomes absent
+    /// and every sender byte 0, and the run stands before instant 1. From there on floods settle, whatever calls follow, with whatever
+    /// delay rule and air (`settles`), and the other laws of runs hold (`laws`).
+    ///
+    /// It declines with 6, 7 (repeated links too) at the lowest such link, 8 at place 1,024 where more links are told, 9 at the lowest
+    /// such sensor (no outgoing message and no byte is looked at), then 11 where rows or bytes are fewer than n, or links than told.
+    /// Its definition is `begun`.
     #[tactic(auto, using(crate::proofs::Began::few_told))]
     pub fn begin<N: Numbering, D, A>(
         settings: Settings,

@@ -13,7 +13,10 @@ use refusal::RunFault;
 use vetting::Named;
 
 impl Idle {
-    /// Overwrites timer, mark and held number of one sensor.
+    /// Overwrites timer, mark and held number of one sensor. Its definition is `damaging`.
+    ///
+    /// It declines as every call does (6, 7, 9, then 11); the sensor that it names belongs to 6, and what it would write to 9, where the
+    /// lower place is told.
     #[tactic(auto, unfolding(history::specs::Calls::world_damaged))]
     pub fn damage<N: Numbering, D, A>(
         &mut self,
@@ -35,7 +38,9 @@ impl Idle {
         Ok(())
     }
 
-    /// The row of one sensor. Nothing changes.
+    /// The row of one sensor; nothing changes. Its definition is `looking`.
+    ///
+    /// It declines as every call does (6, 7, 9, then 11); the sensor that it names belongs to 6, where the lower place is told.
     pub fn look<N: Numbering, D, A>(
         &self,
         lent: &Lent<N, D, A>,
@@ -51,7 +56,9 @@ impl Idle {
         }
     }
 
-    /// Ends the run, and answers what has been since it began.
+    /// Ends the run, and answers the numbers of instants, floods, copies and verdicts since it began. Its definition is `finishing`.
+    ///
+    /// It declines as every call does (6, 7, 9, then 11), and the run is handed back.
     pub fn finish<N: Numbering, D, A>(self, lent: &Lent<N, D, A>) -> Result<Counts, Declined<Idle>>
         ensures { result ≡ or_back self (finishing (field_given N.Numbering.meaning self.progress lent.now) (between self lent.now)) }
     {

@@ -31,7 +31,10 @@ fn base_sends<Number: Copy>(rows: &[Row<Number>]) -> bool
 }
 
 impl Idle {
-    /// Opens the next instant, at the first link.
+    /// Opens the next instant, at the first link: timers run, and who is due sends. Its definition is `opening`.
+    ///
+    /// It declines as every call does (6, 7, 9, then 11), then with 12 after instant 4,294,967,295, then with 13 where sensor 0 must send
+    /// and no number follows; the run is handed back.
     pub fn open<N: Numbering, D: DelayRule, A: Air>(
         self,
         lent: &mut Lent<N, D, A>,
@@ -189,7 +192,10 @@ impl Progress {
 }
 
 impl Instant {
-    /// Takes the next copy, in the order of the links, and answers it with its verdict; or no copy is left, and nothing changes.
+    /// Takes the next copy, in the order of the links, and answers it with its verdict; or no copy is left, and nothing changes. Its
+    /// definition is `carrying`.
+    ///
+    /// It declines as every call does (6, 7, 9, then 11).
     pub fn carry<N: Numbering, D: DelayRule, A: Air>(
         &mut self,
         lent: &mut Lent<N, D, A>,
@@ -224,7 +230,9 @@ impl Instant {
         Some(copy)
     }
 
-    /// Ends the instant. It declines while a copy is left.
+    /// Ends the instant: no message is outgoing, and no sensor sends. Its definition is `closing`.
+    ///
+    /// It declines as every call does (6, 7, 9, then 11), then with 14 while a copy is left; the run is handed back.
     pub fn close<N: Numbering, D, A>(
         self,
         lent: &mut Lent<N, D, A>,

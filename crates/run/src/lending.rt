@@ -6,15 +6,21 @@ use field::{Link, Message, Row};
 use flood::{message_on, send_bytes};
 use numbering::Numbering;
 
-/// What a field is played by and with: the same at each call of a run. Of the links only those that begin was told are looked at,
-/// of rows and sender bytes only the first n, one for each sensor.
+/// What a field is played by and with, lent to every call of a run, the same each time. A run itself holds none of it.
+///
+/// Of the links only the first ones are looked at, as many as begin was told; of rows and sender bytes only the first n, one for each
+/// sensor. What lies past them is neither read nor altered. A call lends the air exactly the told links and the first n bytes.
 #[derive(Drop)]
 pub struct Lent<'n, 'd, 'a, 'l, 'r, 's, N: Numbering, D, A> {
+    /// Which numbers the base puts on its floods, and which copies are fresh.
     pub numbering: &'n N,
+    /// How many instants a sensor waits before it forwards: a period from 1 to tmax.
     pub delay: &'d D,
+    /// Which copies come through.
     pub air: &'a A,
     pub links: &'l [Link],
     pub rows: &'r mut [Row<N::Number>],
+    /// 1 for a sensor that sends in the open instant, and else 0.
     pub senders: &'s mut [u8],
 }
 
@@ -23,7 +29,7 @@ impl<N: Numbering, D, A> Lent<'_, '_, '_, '_, '_, '_, N, D, A> {
     ghost use Rattle.run.specs.Standing.{SameLoans};
 
     // What goes over a link: its sender's outgoing message, if there is one.
-    pub fn message_over(&self, link: Link) -> Option<Message<N::Number>>
+    pub(crate) fn message_over(&self, link: Link) -> Option<Message<N::Number>>
         ensures { result ≡ message_on self.now.rows.now link }
     {
         let rows = &*self.rows;
@@ -31,7 +37,7 @@ impl<N: Numbering, D, A> Lent<'_, '_, '_, '_, '_, '_, N, D, A> {
     }
 
     // The first n sender bytes, by the rows.
-    pub fn send_bytes(&mut self, n: u8)
+    pub(crate) fn send_bytes(&mut self, n: u8)
         ensures senders { self.new.senders.now ≡ sending self.old.rows.now n self.old.senders.now }
         ensures rows { self.new.rows.now ≡ self.old.rows.now }
         ensures lent { SameLoans self.old self.new }

@@ -19,16 +19,22 @@ use history::{Ending, TakenCopy};
 use numbering::Numbering;
 use vetting::Named;
 
-/// What play answers: the instants that it played, the rows that it wrote in the log, and why it ended.
+/// What play answers.
 #[derive(Clone, Copy, PartialEq, Eq, Debug)]
 pub struct Played {
+    /// The instants that it played, up to its budget.
     pub instants: u32,
+    /// The rows that it wrote in the log.
     pub rows: usize,
     pub ending: Ending,
 }
 
 impl Idle {
-    /// Plays a budget of instants. The copies taken stand in the front of the log, one a row; what is behind them stays.
+    /// Plays a budget of instants, each of them open, every copy, and close. The copies stand in the front of the log, one a row, and
+    /// what is behind them stays. Its definition is `playing`.
+    ///
+    /// It ends with the budget spent; or before an instant that has more copies than the log has free rows; or before one that open would
+    /// decline, with that refusal. What was played stands. At a budget of 0 nothing is looked at.
     pub fn play<N: Numbering, D: DelayRule, A: Air>(
         &mut self,
         lent: &mut Lent<N, D, A>,

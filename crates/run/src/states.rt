@@ -21,14 +21,15 @@ pub struct Progress {
     ghost each_once: { copies ≡ lost + refused + accepted },
 }
 
-/// A run between two instants. It is moved from call to call, and holds plain numbers only.
+/// A run between two instants, as begin and close give it. It is moved from call to call, is neither copied nor cloned, and may be let
+/// go. It holds numbers only: the settings and the count of links that begin was given, the instants opened, and what was counted.
 #[derive(Drop)]
 pub struct Idle {
     pub(crate) progress: Progress,
     ghost few_copies: { progress.copies ≤ 1024 * progress.instant },
 }
 
-/// A run within an open instant, with the place in the links from which its next copy is looked for.
+/// A run within an open instant, as open gives it, with the place in the links from which its next copy is looked for.
 #[derive(Drop)]
 pub struct Instant {
     pub(crate) progress: Progress,
@@ -37,7 +38,8 @@ pub struct Instant {
     ghost few_copies: { progress.copies + 1024 ≤ 1024 * progress.instant + position },
 }
 
-/// A call that declined: the run as it stood before, and why.
+/// What is left of a call that takes a run and declines: the run as it stood before, to go on with, and the refusal, which tells its
+/// number, its place and its layer. Nothing that was lent is altered.
 #[derive(Drop)]
 pub struct Declined<Run> {
     pub run: Run,

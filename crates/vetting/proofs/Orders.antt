@@ -1,5 +1,5 @@
 -- Cases looked for one after another. Assumes nothing.
-use Rattle.std.proofs.Common.{◌≡◌, ℕ, ◌+◌, ◌<◌, List, length, drop, get_or, Ok, Err, Result, refl, ◌∙◌, add-one, drop-cons}
+use Rattle.std.proofs.Common.{◌≡◌, ℕ, ◌+◌, ◌<◌, List, length, drop, get_or, Ok, Err, refl, ◌∙◌, add-one, drop-cons}
 use Rattle.std.specs.Result.{result_and}
 use Rattle.refusal.specs.declared.FieldFault.{FieldFault}
 use Rattle.vetting.specs.declared.cases.MemoryCase.{MemoryCase}

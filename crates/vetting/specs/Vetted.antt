@@ -1,5 +1,5 @@
 -- What is looked for in a field before it is written. Assumes nothing.
-use Rattle.std.specs.Prelude.{ℕ, true, List, [], ◌∷◌, length, Result, nat_lt}
+use Rattle.std.specs.Prelude.{true, List, [], ◌∷◌, length, Result, nat_lt}
 use Rattle.std.specs.Result.{result_and}
 use Rattle.refusal.specs.Carried.{in_field}
 use Rattle.refusal.specs.declared.RunFault.{RunFault}

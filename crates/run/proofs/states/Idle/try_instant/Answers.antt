@@ -1,4 +1,4 @@
-use Rattle.std.proofs.Common.{◌≡◌, true, false, sym, ◌∙◌, rules}
+use Rattle.std.proofs.Common.{rules}
 use Rattle.run.specs.Standing.{between, given}
 use Rattle.run.proofs.Trying.{finds_room, was_done, was_refused, was_short}
 use Rattle.run.proofs.states.Idle.try_instant.Goals as goal

@@ -1,4 +1,4 @@
-use Rattle.std.proofs.Common.{◌≡◌, Some, None, refl, rules}
+use Rattle.std.proofs.Common.{◌≡◌, Some, refl}
 use Rattle.history.specs.Calls.{world_closed}
 use Rattle.run.specs.Standing.{stands, with_bytes}
 use Rattle.run.proofs.Loans.{given_same}

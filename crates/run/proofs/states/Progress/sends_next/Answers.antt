@@ -1,4 +1,4 @@
-use Rattle.std.proofs.Common.{None, ◌∙◌, arith, rules}
+use Rattle.std.proofs.Common.{None, ◌∙◌, rules}
 use Rattle.run.specs.Standing.{given, stands}
 use Rattle.run.proofs.Sending.{sends_none, sends_past, sends_within}
 use Rattle.run.proofs.states.Progress.sends_next.Goals as goal
