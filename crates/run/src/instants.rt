@@ -94,7 +94,7 @@ impl Progress {
 
 impl Progress {
     // One copy more, and one more of its verdict, where one that forwards counts as accepted.
-    fn count(self, verdict: Verdict) -> Progress
+    fn counted(self, verdict: Verdict) -> Progress
         requires { self.copies + 1 < 18446744073709551616 }
         ensures counts { counts_of result ≡ counted_copy verdict (counts_of self) }
         ensures settings { result.settings ≡ self.settings }
@@ -149,7 +149,7 @@ impl Progress {
         let row = *rows.get(usize::from(link.to))?;
         let taken = take_copy(numbering, carried, message, row);
         put(rows, usize::from(link.to), taken.row);
-        *self = self.count(taken.verdict);
+        *self = self.counted(taken.verdict);
         Some(TakenCopy {
             instant: self.instant,
             from: link.from,
