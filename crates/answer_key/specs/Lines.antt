@@ -24,7 +24,7 @@ word_then word rest = word ++ (space ∷ rest)
 
 -- the line of a refusal: its number, and the index of its record
 unfoldable pub refusal_line : KeyRefusal → List ℕ
-refusal_line refusal = word_then (codes "refusal") (word_then (decimal refusal.number) (decimal refusal.record ++ (line_feed ∷ [])))
+refusal_line refusal = word_then (codes "refusal") (word_then (decimal refusal.number) (decimal refusal.index ++ (line_feed ∷ [])))
 
 -- behind the lines of copies there is one of a refusal, or there is none
 abbrev pub last_line : Option KeyRefusal → List ℕ

@@ -4,5 +4,5 @@
 #[derive(Clone, Copy, PartialEq, Eq, Debug)]
 pub struct KeyRefusal {
     pub number: u8,
-    pub record: usize,
+    pub index: usize,
 }
