@@ -131,6 +131,11 @@ module _ {Num : Type 0} (lent : Lent Num) where
   refused_next zero world fault h e = absurd (omega arith)
   refused_next (suc budget) world fault h e = playing_ends lent budget (suc budget * links) world (Refused fault) (tried_refused lent (suc budget * links) world fault e)
 
+  -- a call where a run stands between instants
+  pub between_call : (call : Call Num) (world : World Num) → world.position ≡ None → called lent world call ≡ called_between lent world call
+  between_call call world here =
+      called_either lent (λ o. o ≡ called_between lent world call) world call (λ h. refl) (λ position there. let both : None ≡ Some position = sym here ∙ there in absurd cc)
+
 -- What a key has behind an act, and where its run ends.
 module _ {Num : Type 0} (lent : Lent Num) (worth : Num → ℕ) where
   -- some lines, and then a key from where a run stands
@@ -176,18 +181,13 @@ module _ {Num : Type 0} (lent : Lent Num) (worth : Num → ℕ) where
       ends_at = refl;
     })
 
-  -- an act is a call between instants
-  between_call : (call : Call Num) (world : World Num) → world.position ≡ None → called lent world call ≡ called_between lent world call
-  between_call call world here =
-      called_either lent (λ o. o ≡ called_between lent world call) world call (λ h. refl) (λ position there. let both : None ≡ Some position = sym here ∙ there in absurd cc)
-
   called_play : (budget : ℕ) (world : World Num) → world.position ≡ None → called lent world (call_of lent (Plays budget)) ≡ plays_on lent world (whole lent budget world)
-  called_play budget world here = between_call (call_of lent (Plays budget)) world here
+  called_play budget world here = between_call lent (call_of lent (Plays budget)) world here
 
   called_damage :
       (damage : Damage Num) (world : World Num) → world.position ≡ None
       → called lent world (call_of lent (Damages damage)) ≡ moves_on lent world (λ next. Damaged ∷ []) (damaging lent.field damage world)
-  called_damage damage world here = between_call (call_of lent (Damages damage)) world here
+  called_damage damage world here = between_call lent (call_of lent (Damages damage)) world here
 
   -- what comes behind the part of a play that a log had room for
   pub play_part :

@@ -1,1 +1,4 @@
 pub mod Acting
+mod Standing
+mod Portioning
+mod Printing

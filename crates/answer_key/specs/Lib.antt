@@ -1,2 +1,4 @@
 pub mod Lines
 pub mod Keys
+pub mod Portions
+pub mod Steps

@@ -1,7 +1,7 @@
 pub mod Began
 mod Begins
 mod Carrying
-mod Loans
+pub mod Loans
 mod Onward
 mod Playing
 mod Returning
