@@ -2,5 +2,7 @@
 #![tactic(auto)]
 
 mod lines;
+#[cfg(test)]
+mod tests;
 
-pub use lines::KeyRefusal;
+pub use lines::{KeyRefusal, print};

@@ -1,0 +1,2 @@
+mod Told
+mod Widths
