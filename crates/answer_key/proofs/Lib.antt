@@ -1,2 +1,4 @@
+mod Cuts
+mod ReadBack
 mod Told
 mod Widths

@@ -5,6 +5,7 @@ ghost use Rattle.page.specs.Pages.{fitting, written};
 ghost use Rattle.page.specs.Pens.{Wrote};
 ghost use Rattle.refusal.specs.declared.RunFault.TheVariants.{NoRoom};
 ghost use Rattle.answer_key.specs.Lines.{verdict_word, copy_line, refusal_line, last_line, copy_lines, key_text};
+ghost use Rattle.answer_key.specs.Reading.{PrintLaws};
 
 use flood::Verdict;
 use history::TakenCopy;
@@ -127,6 +128,7 @@ pub fn print<K: NumberKind>(
 ) -> Result<usize, RunFault>
     ensures value { result ≡ ok_or (fitting (key_text K.NumberKind.worth copies.now refusal) page.old) NoRoom }
     ensures page { page.new ≡ written (key_text K.NumberKind.worth copies.now refusal) page.old }
+    ensures laws { PrintLaws K.NumberKind.among K.NumberKind.of K.NumberKind.worth }
 {
     let key = Key { copies, refusal };
     // Where even the longest lines have room, the text need not be measured first.

@@ -1,4 +1,4 @@
-use Rattle.std.proofs.Common.{◌<◌, length, add-one, length-append, arith, lit≤}
+use Rattle.std.proofs.Common.{add-one, length-append, arith}
 use Rattle.page.proofs.Wrotes.{wrote_nothing, wrote_then}
 use Rattle.answer_key.specs.Lines.{copy_lines}
 use Rattle.answer_key.proofs.Told.{lines_more}

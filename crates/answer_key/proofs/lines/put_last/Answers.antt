@@ -1,4 +1,3 @@
-use Rattle.std.proofs.Common.{rules}
 use Rattle.page.proofs.Wrotes.{wrote_nothing}
 use Rattle.answer_key.proofs.lines.put_last.Goals as goal
 
