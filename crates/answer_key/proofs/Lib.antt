@@ -1,3 +1,4 @@
+mod Built
 mod Cuts
 mod ReadBack
 mod Told

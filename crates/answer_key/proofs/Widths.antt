@@ -8,16 +8,16 @@ use Rattle.history.specs.declared.taking.TakenCopy.{TakenCopy}
 use Rattle.answer_key.specs.declared.lines.KeyRefusal.{KeyRefusal}
 use Rattle.answer_key.specs.Lines.{verdict_word, copy_line, refusal_line}
 
-byte_width : (n : ℕ) → n < 2 ^ 8 → length (decimal n) ≤ 3
+pub byte_width : (n : ℕ) → n < 2 ^ 8 → length (decimal n) ≤ 3
 byte_width n h = length-decimal-le 3 n (lit< tt) (omega arith) (omega arith)
 
-word_width : (n : ℕ) → n < 2 ^ 32 → length (decimal n) ≤ 10
+pub word_width : (n : ℕ) → n < 2 ^ 32 → length (decimal n) ≤ 10
 word_width n h = length-decimal-le 10 n (lit< tt) (omega arith) (omega arith)
 
-index_width : (n : ℕ) → n < 2 ^ 64 → length (decimal n) ≤ 20
+pub index_width : (n : ℕ) → n < 2 ^ 64 → length (decimal n) ≤ 20
 index_width n h = length-decimal-le 20 n (lit< tt) (omega arith) h
 
-verdict_width : (verdict : Verdict) → length (verdict_word verdict) ≤ 8
+pub verdict_width : (verdict : Verdict) → length (verdict_word verdict) ≤ 8
 verdict_width Lost = lit≤ tt
 verdict_width Refused = lit≤ tt
 verdict_width Accepted = lit≤ tt

@@ -7,6 +7,7 @@ ghost use Rattle.refusal.specs.declared.RunFault.TheVariants.{NoRoom};
 ghost use Rattle.answer_key.specs.Lines.{verdict_word, copy_line, refusal_line, last_line, copy_lines, key_text};
 ghost use Rattle.answer_key.specs.Reading.{PrintLaws};
 
+use crate::line::{put_bytes, put_number, put_word};
 use flood::Verdict;
 use history::TakenCopy;
 use numbering::NumberKind;
@@ -39,20 +40,15 @@ fn put_copy<K: NumberKind>(pen: &mut Pen, copy: TakenCopy<K>)
     ensures line { Wrote pen.old pen.new (copy_line K.NumberKind.worth copy) }
     ensures short { length (copy_line K.NumberKind.worth copy) ≤ LONGEST_LINE }
 {
-    pen.line(&[
-        copy.instant.into(),
-        " ".into(),
-        copy.from.into(),
-        " ".into(),
-        copy.to.into(),
-        " ".into(),
-        copy.hop.into(),
-        " ".into(),
-        copy.number.value().into(),
-        " ".into(),
-        verdict_word(copy.verdict).into(),
-        "\n".into(),
-    ])
+    let mut line = [0; LONGEST_LINE];
+    let at = put_number(&mut line, 0, copy.instant.into(), b' ');
+    let at = put_number(&mut line, at, copy.from.into(), b' ');
+    let at = put_number(&mut line, at, copy.to.into(), b' ');
+    let at = put_number(&mut line, at, copy.hop.into(), b' ');
+    let at = put_number(&mut line, at, copy.number.value().into(), b' ');
+    let word = verdict_word(copy.verdict).as_bytes();
+    let end = put_word(&mut line, at, word, b'\n');
+    put_bytes(pen, &line[..end])
 }
 
 #[tactic(auto, unfolding(crate::specs::Lines::refusal_line))]
