@@ -86,27 +86,20 @@ fn put_copies<K: NumberKind>(pen: &mut Pen, copies: &[TakenCopy<K>])
 
 // Copies, and a refusal behind them.
 #[derive(Drop)]
-struct Key<'a, Number> {
+struct KeyLines<'a, Number> {
     copies: &'a [TakenCopy<Number>],
     refusal: Option<KeyRefusal>,
 }
 
-impl<'a, K: NumberKind> Key<'a, K> {
-    // As `put`, which cannot say how long the text is at most.
-    fn put_short(&self, pen: &mut Pen)
+impl<'a, K: NumberKind> Text for KeyLines<'a, K> {
+    ghost text = { λ key. key_text K.NumberKind.worth key.copies.now key.refusal };
+
+    fn put(&self, pen: &mut Pen)
         ensures text { Wrote pen.old pen.new (key_text K.NumberKind.worth self.now.copies.now self.now.refusal) }
         ensures short { length (key_text K.NumberKind.worth self.now.copies.now self.now.refusal) ≤ (length self.now.copies.now + 1) * LONGEST_LINE }
     {
         put_copies(pen, self.copies);
         put_last(pen, self.refusal)
-    }
-}
-
-impl<'a, K: NumberKind> Text for Key<'a, K> {
-    ghost text = { λ key. key_text K.NumberKind.worth key.copies.now key.refusal };
-
-    fn put(&self, pen: &mut Pen) {
-        self.put_short(pen)
     }
 }
 
@@ -126,11 +119,11 @@ pub fn print<K: NumberKind>(
     ensures page { page.new ≡ written (key_text K.NumberKind.worth copies.now refusal) page.old }
     ensures laws { PrintLaws K.NumberKind.among K.NumberKind.of K.NumberKind.worth }
 {
-    let key = Key { copies, refusal };
+    let key = KeyLines { copies, refusal };
     // Where even the longest lines have room, the text need not be measured first.
     if page.len() / LONGEST_LINE > copies.len() {
         let mut pen = Pen { page, at: 0 };
-        key.put_short(&mut pen);
+        key.put(&mut pen);
         return Ok(pen.at);
     }
     write(&key, page).ok_or(RunFault::NoRoom)
