@@ -11,11 +11,11 @@ use crate::line::{put_bytes, put_number, put_word};
 use flood::Verdict;
 use history::TakenCopy;
 use numbering::NumberKind;
-use page::{Pen, Text, write};
+use page::Pen;
 use refusal::RunFault;
 
-// No line has more bytes: 10, 3, 3, 3, 10 and 8 in a copy's six words, and one behind each.
-const LONGEST_LINE: usize = 43;
+/// No line has more bytes: 10, 3, 3, 3, 10 and 8 in a copy's six words, and one behind each.
+pub const LONGEST_LINE: usize = 43;
 
 /// The refusal that a key ends with: its number, and the index of the record at which it came, counted from 0.
 #[derive(Clone, Copy, PartialEq, Eq, Debug)]
@@ -77,30 +77,20 @@ fn put_last(pen: &mut Pen, refusal: Option<KeyRefusal>)
 
 fn put_copies<K: NumberKind>(pen: &mut Pen, copies: &[TakenCopy<K>])
     ensures lines { Wrote pen.old pen.new (copy_lines K.NumberKind.worth copies.now) }
-    ensures short { length (copy_lines K.NumberKind.worth copies.now) ≤ length copies.now * LONGEST_LINE }
+    ensures short { length (copy_lines K.NumberKind.worth copies.now) ≤ LONGEST_LINE * length copies.now }
 {
     for copy in copies {
         put_copy(pen, *copy);
     }
 }
 
-// Copies, and a refusal behind them.
-#[derive(Drop)]
-struct KeyLines<'a, Number> {
-    copies: &'a [TakenCopy<Number>],
-    refusal: Option<KeyRefusal>,
-}
-
-impl<'a, K: NumberKind> Text for KeyLines<'a, K> {
-    ghost text = { λ key. key_text K.NumberKind.worth key.copies.now key.refusal };
-
-    fn put(&self, pen: &mut Pen)
-        ensures text { Wrote pen.old pen.new (key_text K.NumberKind.worth self.now.copies.now self.now.refusal) }
-        ensures short { length (key_text K.NumberKind.worth self.now.copies.now self.now.refusal) ≤ (length self.now.copies.now + 1) * LONGEST_LINE }
-    {
-        put_copies(pen, self.copies);
-        put_last(pen, self.refusal)
-    }
+fn put_key<K: NumberKind>(pen: &mut Pen, copies: &[TakenCopy<K>], refusal: Option<KeyRefusal>)
+    ensures text { Wrote pen.old pen.new (key_text K.NumberKind.worth copies.now refusal) }
+    ensures short { length (copy_lines K.NumberKind.worth copies.now) ≤ LONGEST_LINE * length copies.now }
+    ensures last_short { length (last_line refusal) ≤ LONGEST_LINE }
+{
+    put_copies(pen, copies);
+    put_last(pen, refusal)
 }
 
 /// Prints copies, a line for each, and a refusal where one is given, at the front of a page, and answers how many bytes that took;
@@ -109,7 +99,8 @@ impl<'a, K: NumberKind> Text for KeyLines<'a, K> {
 /// A copy's line is `instant sender receiver hop number verdict`, with one space between two words and a line feed behind the last; its
 /// verdict is `lost`, `refused`, `accepted` or `forwards`. The refusal's line is `refusal number index`. Numbers are in decimal.
 ///
-/// It declines with `NoRoom` where the text does not fit, and the page stays as it was.
+/// It declines with `NoRoom` where the text does not fit, and the page stays as it was. The lines of copies are at most `LONGEST_LINE`
+/// bytes each (`short`), and whoever reads the text has the copies and the refusal back (`laws`).
 pub fn print<K: NumberKind>(
     copies: &[TakenCopy<K>],
     refusal: Option<KeyRefusal>,
@@ -117,14 +108,21 @@ pub fn print<K: NumberKind>(
 ) -> Result<usize, RunFault>
     ensures value { result ≡ ok_or (fitting (key_text K.NumberKind.worth copies.now refusal) page.old) NoRoom }
     ensures page { page.new ≡ written (key_text K.NumberKind.worth copies.now refusal) page.old }
+    ensures short { length (copy_lines K.NumberKind.worth copies.now) ≤ LONGEST_LINE * length copies.now }
     ensures laws { PrintLaws K.NumberKind.among K.NumberKind.of K.NumberKind.worth }
 {
-    let key = KeyLines { copies, refusal };
-    // Where even the longest lines have room, the text need not be measured first.
-    if page.len() / LONGEST_LINE > copies.len() {
-        let mut pen = Pen { page, at: 0 };
-        key.put(&mut pen);
-        return Ok(pen.at);
+    // Where even the longest lines have room, the text need not be measured before it is written.
+    if page.len() / LONGEST_LINE <= copies.len() {
+        let mut nowhere = Pen {
+            page: &mut [],
+            at: 0,
+        };
+        put_key(&mut nowhere, copies, refusal);
+        if nowhere.at > page.len() {
+            return Err(RunFault::NoRoom);
+        }
     }
-    write(&key, page).ok_or(RunFault::NoRoom)
+    let mut pen = Pen { page, at: 0 };
+    put_key(&mut pen, copies, refusal);
+    Ok(pen.at)
 }
