@@ -1,4 +1,9 @@
-pub mod Acting
-mod Standing
+mod Acting
+mod Built
+mod Cuts
 mod Portioning
 mod Printing
+mod ReadBack
+mod Standing
+mod Told
+mod Widths

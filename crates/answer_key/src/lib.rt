@@ -2,9 +2,12 @@
 #![tactic(auto)]
 
 mod key;
+mod line;
 mod lines;
 mod states;
+#[cfg(test)]
+mod tests;
 
 pub use key::PORTION;
-pub use lines::{KeyRefusal, print};
+pub use lines::{KeyRefusal, LONGEST_LINE, print};
 pub use states::AnswerKey;
