@@ -20,12 +20,11 @@ MOST_BYTES, MOST_LINKS, MOST_LOSSES = 48_000, 1024, 256
 NO_MARK = 255
 
 
-# Records. Each kind has a layout: c is the kind's letter, B, H and I are numbers of one, two and four bytes, the highest byte
-# first, and x is a byte that must be zero.
+# Records. A kind has a letter and the layout of what stands behind it: B, H and I are numbers of one, two and four bytes, the highest
+# byte first, and x is a byte that must be zero.
 
 
 class Field(NamedTuple):
-    kind: bytes
     code: int
     n: int
     hmax: int
@@ -34,57 +33,56 @@ class Field(NamedTuple):
     f: int
     seed: int
 
+    letter, layout = b"F", Struct(">BBBBBHI")
+
 
 class Sensor(NamedTuple):
-    kind: bytes
     sensor: int
     mark: int
     timer: int
     number: int
+
+    letter, layout = b"S", Struct(">BBxHxxI")
 
     def row(self):
         return Row(self.timer, self.number, None if self.mark == NO_MARK else self.mark)
 
 
 class Link(NamedTuple):
-    kind: bytes
     sender: int
     receiver: int
     label: int
 
+    letter, layout = b"L", Struct(">BBBxxxxxxxx")
+
 
 class Loss(NamedTuple):
-    kind: bytes
     sender: int
     receiver: int
     instant: int
 
+    letter, layout = b"X", Struct(">BBxIxxxx")
+
 
 class Play(NamedTuple):
-    kind: bytes
     budget: int
 
+    letter, layout = b"P", Struct(">xxxIxxxx")
 
-KINDS = {b"F": Field, b"S": Sensor, b"L": Link, b"X": Loss, b"P": Play}
-LAYOUTS = {
-    Field: Struct(">cBBBBBHI"),
-    Sensor: Struct(">cBBxHxxI"),
-    Link: Struct(">cBBBxxxxxxxx"),
-    Loss: Struct(">cBBxIxxxx"),
-    Play: Struct(">cxxxIxxxx"),
-}
+
+KINDS = {kind.letter: kind for kind in (Field, Sensor, Link, Loss, Play)}
 
 
 def read(chunk):
     kind = KINDS[chunk[:1]]
-    return kind(*LAYOUTS[kind].unpack(chunk))
+    return kind(*kind.layout.unpack(chunk[1:]))
 
 
 def written(record):
-    return LAYOUTS[type(record)].pack(*record)
+    return record.letter + record.layout.pack(*record)
 
 
-# Files. The ten cases of a refusal are told by their places, from the lowest up. A case trusts that those before it do not hold.
+# Files. Each case of a refusal gives the places at which it holds, from the lowest up. It is asked only where none before it holds.
 
 
 class File:
@@ -119,7 +117,7 @@ class File:
         cases = [
             self.bad_length, self.unknown_kind, self.not_zero, self.out_of_order, self.bad_setting,
             self.no_sensor, self.bad_link, self.too_many, self.bad_row, self.no_link,
-        ]  # fmt: skip
+        ]
         return next(((number, place) for number, case in enumerate(cases, 1) for place in case()), None)
 
     def bad_length(self):
@@ -153,7 +151,7 @@ class File:
             stage = max(stage, stages[type(record)])
 
     def bad_setting(self):
-        _, code, n, hmax, tmax, smax, f, _ = self.field
+        code, n, hmax, tmax, smax, f, _ = self.field
         times_kept = 1 <= n <= 200 and 1 <= hmax <= 15 and 1 <= tmax <= 60 and f >= hmax * tmax + 1
         code_kept = code in (0, 1) and smax == 0 or code in (2, 3) and smax >= 2
         if not (times_kept and code_kept):
@@ -167,22 +165,21 @@ class File:
 
     def bad_link(self):
         earlier = set()
-        for k, (_, sender, receiver, label) in self.places(Link):
+        for k, (sender, receiver, label) in self.places(Link):
             if sender == receiver or receiver == 0 or label > 100 or (sender, receiver) in earlier:
                 yield k
             earlier.add((sender, receiver))
 
     def too_many(self):
-        surplus = self.places(Link)[MOST_LINKS:] + self.places(Loss)[MOST_LOSSES:]
-        for k, _ in surplus:  # links stand before losses
+        for k, _ in self.places(Link)[MOST_LINKS:] + self.places(Loss)[MOST_LOSSES:]:  # in order, as losses stand behind links
             yield k
 
     def bad_row(self):
         for k, record in self.places(Sensor):
-            longest = self.field.f if record.sensor == 0 else self.field.tmax
-            highest = -1 if record.sensor == 0 else self.field.hmax  # of marks
-            marked_well = record.mark == NO_MARK or record.mark <= highest
-            if not (1 <= record.timer <= longest and marked_well and self.numbering.lawful(record.number)):
+            base = record.sensor == 0
+            timer_kept = 1 <= record.timer <= (self.field.f if base else self.field.tmax)
+            mark_kept = record.mark == NO_MARK or not base and record.mark <= self.field.hmax
+            if not (timer_kept and mark_kept and self.numbering.lawful(record.number)):
                 yield k
 
     def no_link(self):
@@ -195,16 +192,14 @@ class File:
 
     def run(self):
         """The run as it begins: seed 0 takes the slowest delay rule, and the air draws with every seed."""
-        _, _, n, hmax, tmax, _, f, seed = self.field
-        listed = {(loss.sender, loss.receiver, loss.instant) for loss in self.all(Loss)}
-        links = [(link.sender, link.receiver, link.label) for link in self.all(Link)]
-        rows = [record.row() for record in self.records[1 : n + 1]]
-        air = collisions(losses(listed, drawn(seed)))
+        _, n, hmax, tmax, _, f, seed = self.field
         delay = drawn_periods(seed) if seed else slowest
-        return Run(Settings(n, hmax, tmax, f, seed), self.numbering, delay, air, links, rows)
+        air = collisions(losses(set(self.all(Loss)), drawn(seed)))
+        rows = [record.row() for record in self.records[1 : n + 1]]
+        return Run(Settings(n, hmax, tmax, f, seed), self.numbering, delay, air, self.all(Link), rows)
 
     def acts(self):
-        """Plays and damages, with their places."""
+        """Plays and damages, with their places. No damage is refused any more: the check has looked at it as at a row."""
         return [(k, record) for k, record in self.places(Play, Sensor) if k > self.field.n]
 
 
@@ -212,7 +207,7 @@ class File:
 
 
 def copies(run, budget):
-    """The copies of so many instants. Where no timer is at 1 time is passed over, so that a quiet budget costs nothing."""
+    """The copies of so many instants. Those in which no timer is at 1 are passed over together, so that the largest budget ends."""
     while budget := budget - run.pass_quiet(budget):
         run.open()
         while (copy := run.carry()) is not None:
