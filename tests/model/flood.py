@@ -6,6 +6,7 @@ It knows nothing of proofs, lent buffers or speed. What it answers is compared w
 from dataclasses import dataclass, replace
 
 WORDS = 2**32
+LAST_INSTANT = WORDS - 1
 
 
 class Refused(Exception):
@@ -17,16 +18,50 @@ class Refused(Exception):
         return f"refusal {self.number} at {self.place}, layer {self.layer}"
 
 
-# Numberings: the next number, or None, and whether a copy is fresh against a held number.
+# Numberings: whether a number is lawful, the next one, or None, and whether a copy is fresh against a held number.
 
 
-class Differentiated:
+class Free:
+    def lawful(self, number):
+        return number == 0
+
+    def next(self, number):
+        return 0
+
+    def fresh(self, copy, held):
+        return True
+
+
+class Linear:
+    def lawful(self, number):
+        return number < WORDS
+
+    def next(self, number):
+        return number + 1 if self.lawful(number + 1) else None
+
+    def fresh(self, copy, held):
+        return copy > held
+
+
+class Ring:
+    """Numbers from 0 to smax, with 0 behind smax again."""
+
     def __init__(self, smax):
         self.smax = smax
+
+    def lawful(self, number):
+        return number <= self.smax
 
     def next(self, number):
         return (number + 1) % (self.smax + 1)
 
+
+class Circular(Ring):
+    def fresh(self, copy, held):
+        return 1 <= (copy - held) % (self.smax + 1) <= self.smax // 2
+
+
+class Differentiated(Ring):
     def fresh(self, copy, held):
         return copy != held
 
@@ -36,6 +71,9 @@ class Windowed:
 
     def __init__(self, window):
         self.window = window
+
+    def lawful(self, number):
+        return number <= 65535
 
     def next(self, number):
         return number + 1 if number < 65535 else None
@@ -63,6 +101,10 @@ def staggered(tmax, instant, sensor):
     return 1 + sensor % tmax
 
 
+def drawn_periods(seed):
+    return lambda tmax, instant, sensor: 1 + draw(seed, instant, sensor, 0) % tmax
+
+
 def drawn(seed):
     def carries(instant, link, links, sending):
         return draw(seed, instant, link[0], link[1]) % 100 < (link[2] or 100)
@@ -77,10 +119,14 @@ def losses(listed, below):
     return carries
 
 
+def drowned(link, links, sending):
+    """Whether the receiver sends itself, or another sensor that sends has a link into it."""
+    return link[1] in sending or any(b == link[1] and a != link[0] and a in sending for a, b, _ in links)
+
+
 def collisions(below):
     def carries(instant, link, links, sending):
-        rivals = [a for a, b, _ in links if b == link[1] and a != link[0] and a in sending]
-        return below(instant, link, links, sending) and link[1] not in sending and not rivals
+        return below(instant, link, links, sending) and not drowned(link, links, sending)
 
     return carries
 
@@ -137,6 +183,8 @@ class Run:
 
     def opened(self):
         """All rows as the next instant opens, and who sends what then."""
+        if self.instant == LAST_INSTANT:
+            raise Refused(12, 0, "run")
         pairs = [self.open_row(sensor) for sensor in range(self.settings.n)]
         messages = {sensor: message for sensor, (_, message) in enumerate(pairs) if message is not None}
         return [row for row, _ in pairs], messages
@@ -147,6 +195,15 @@ class Run:
         self.left = [link for link in self.links if link[0] in self.messages]
         self.counts["instants"] += 1
         self.counts["floods"] += 0 in self.messages
+
+    def pass_quiet(self, most):
+        """Plays so many instants at most in which no timer is at 1 and no copy goes, in one step; answers how many they are."""
+        instants = min(most, LAST_INSTANT - self.instant, min(row.timer for row in self.rows) - 1)
+        if instants:
+            self.rows = [replace(row, timer=row.timer - instants) for row in self.rows]
+            self.instant += instants
+            self.counts["instants"] += instants
+        return instants
 
     def bytes(self):
         return [int(sensor in self.messages) for sensor in range(self.settings.n)]
