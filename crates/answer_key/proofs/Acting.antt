@@ -20,7 +20,7 @@ use Rattle.history.proofs.PlayLaws.{joined, play_laws}
 use Rattle.history.proofs.Playing.{tried_refused, tried_whole}
 use Rattle.refusal.specs.declared.RunFault.{RunFault}
 use Rattle.answer_key.specs.Lines.{copy_line, copy_lines, last_line, refusal_line}
-use Rattle.answer_key.specs.Keys.{acted, acts_history, call_of, declined, fault_in, key_of, next_index, refusal_at}
+use Rattle.answer_key.specs.Keys.{KeyEnd, acted, acts_end, call_of, declined, fault_in, key_of, next_index, refusal_at}
 
 module _ {Num : Type 0} (worth : Num → ℕ) where
   -- lines behind one another
@@ -139,14 +139,14 @@ module _ {Num : Type 0} (lent : Lent Num) where
 -- What a key has behind an act, and where its run ends.
 module _ {Num : Type 0} (lent : Lent Num) (worth : Num → ℕ) where
   -- some lines, and then a key from where a run stands
-  pub record KeyAfter (copies : List (TakenCopy Num)) (index : ℕ) (acts : List (Act Num)) (world : World Num) (text : List ℕ) (ends : World Num) : Type 0 where
+  pub record KeyAfter (copies : List (TakenCopy Num)) (index : ℕ) (acts : List (Act Num)) (world : World Num) (text : List ℕ) (ends : KeyEnd Num) : Type 0 where
     pub text_is : text ≡ copy_lines worth copies ++ key_of lent worth index acts world
-    pub ends_at : ends ≡ (acts_history lent index acts world).world
+    pub ends_at : ends ≡ (acts_end lent index acts world)
 
   -- some lines, and then that of a refusal
-  pub record KeyEnds (copies : List (TakenCopy Num)) (fault : RunFault) (index : ℕ) (world : World Num) (text : List ℕ) (ends : World Num) : Type 0 where
+  pub record KeyEnds (copies : List (TakenCopy Num)) (fault : RunFault) (index : ℕ) (world : World Num) (text : List ℕ) (ends : KeyEnd Num) : Type 0 where
     pub text_is : text ≡ copy_lines worth copies ++ refusal_line (refusal_at fault index)
-    pub ends_at : ends ≡ world
+    pub ends_at : ends ≡ record { world = world; refusal = Some (refusal_at fault index) }
 
   module _ (index : ℕ) (act : Act Num) (acts : List (Act Num)) (world : World Num) where
     abbrev done : Outcome Num
@@ -157,12 +157,12 @@ module _ {Num : Type 0} (lent : Lent Num) (worth : Num → ℕ) where
     unfolding acted
     acts_on on = rw (on, acted) refl
 
-    acts_end : (fault : RunFault) → declined done.answer ≡ Some fault → acted lent index (act ∷ acts) world ≡ record { calls = call_of lent act ∷ []; refusal = Some (refusal_at fault index) }
+    acts_stop : (fault : RunFault) → declined done.answer ≡ Some fault → acted lent index (act ∷ acts) world ≡ record { calls = call_of lent act ∷ []; refusal = Some (refusal_at fault index) }
     unfolding acted
-    acts_end fault off = rw (off, acted) refl
+    acts_stop fault off = rw (off, acted) refl
 
     -- an act that is done
-    pub act_done : declined done.answer ≡ None → KeyAfter (copies_in done.events) (next_index index) acts done.world (key_of lent worth index (act ∷ acts) world) (acts_history lent index (act ∷ acts) world).world
+    pub act_done : declined done.answer ≡ None → KeyAfter (copies_in done.events) (next_index index) acts done.world (key_of lent worth index (act ∷ acts) world) (acts_end lent index (act ∷ acts) world)
     unfolding history
     act_done on =
         let rest = acted lent (next_index index) acts done.world in
@@ -174,9 +174,9 @@ module _ {Num : Type 0} (lent : Lent Num) (worth : Num → ℕ) where
         })
 
     -- one that declines
-    pub act_declined : (fault : RunFault) → declined done.answer ≡ Some fault → KeyEnds (copies_in done.events) fault index done.world (key_of lent worth index (act ∷ acts) world) (acts_history lent index (act ∷ acts) world).world
+    pub act_declined : (fault : RunFault) → declined done.answer ≡ Some fault → KeyEnds (copies_in done.events) fault index done.world (key_of lent worth index (act ∷ acts) world) (acts_end lent index (act ∷ acts) world)
     unfolding history
-    act_declined fault off = rw (acts_end fault off) (record {
+    act_declined fault off = rw (acts_stop fault off) (record {
       text_is = ap (λ (events : List (Event Num)). copy_lines worth (copies_in events) ++ refusal_line (refusal_at fault index)) (append-nil done.events);
       ends_at = refl;
     })
@@ -193,7 +193,7 @@ module _ {Num : Type 0} (lent : Lent Num) (worth : Num → ℕ) where
   pub play_part :
       (part room left index : ℕ) (acts : List (Act Num)) (world : World Num) → world.position ≡ None → (playing lent part room world).world.position ≡ None → part ≤ left
       → let p = playing lent part room world in
-      KeyAfter (copies_in p.events) index (Plays (left - p.instants) ∷ acts) p.world (key_of lent worth index (Plays left ∷ acts) world) (acts_history lent index (Plays left ∷ acts) world).world
+      KeyAfter (copies_in p.events) index (Plays (left - p.instants) ∷ acts) p.world (key_of lent worth index (Plays left ∷ acts) world) (acts_end lent index (Plays left ∷ acts) world)
   play_part part room left index acts world here there h = by (fault_in rest.ending) refl
     where
       p : Played Num
@@ -215,59 +215,59 @@ module _ {Num : Type 0} (lent : Lent Num) (worth : Num → ℕ) where
 
       by :
           (o : Option RunFault) → fault_in rest.ending ≡ o
-          → KeyAfter (copies_in p.events) index (Plays (left - p.instants) ∷ acts) p.world (key_of lent worth index (Plays left ∷ acts) world) (acts_history lent index (Plays left ∷ acts) world).world
+          → KeyAfter (copies_in p.events) index (Plays (left - p.instants) ∷ acts) p.world (key_of lent worth index (Plays left ∷ acts) world) (acts_end lent index (Plays left ∷ acts) world)
       by None e =
           let one = act_done index (Plays left) acts world (ap (λ (o : Outcome Num). declined o.answer) first ∙ e) in
           let other = act_done index (Plays (left - p.instants)) acts p.world (ap (λ (o : Outcome Num). declined o.answer) second ∙ e) in
-          let was = subst (λ (o : Outcome Num). KeyAfter (copies_in o.events) (next_index index) acts o.world (key_of lent worth index (Plays left ∷ acts) world) (acts_history lent index (Plays left ∷ acts) world).world) first one in
-          let is = subst (λ (o : Outcome Num). KeyAfter (copies_in o.events) (next_index index) acts o.world (key_of lent worth index (Plays (left - p.instants) ∷ acts) p.world) (acts_history lent index (Plays (left - p.instants) ∷ acts) p.world).world) second other in
+          let was = subst (λ (o : Outcome Num). KeyAfter (copies_in o.events) (next_index index) acts o.world (key_of lent worth index (Plays left ∷ acts) world) (acts_end lent index (Plays left ∷ acts) world)) first one in
+          let is = subst (λ (o : Outcome Num). KeyAfter (copies_in o.events) (next_index index) acts o.world (key_of lent worth index (Plays (left - p.instants) ∷ acts) p.world) (acts_end lent index (Plays (left - p.instants) ∷ acts) p.world)) second other in
           record { text_is = was.text_is ∙ parts (key_of lent worth (next_index index) acts rest.world) ∙ ap (λ (text : List ℕ). copy_lines worth (copies_in p.events) ++ text) (sym is.text_is); ends_at = was.ends_at ∙ sym is.ends_at }
       by (Some fault) e =
           let one = act_declined index (Plays left) acts world fault (ap (λ (o : Outcome Num). declined o.answer) first ∙ e) in
           let other = act_declined index (Plays (left - p.instants)) acts p.world fault (ap (λ (o : Outcome Num). declined o.answer) second ∙ e) in
-          let was = subst (λ (o : Outcome Num). KeyEnds (copies_in o.events) fault index o.world (key_of lent worth index (Plays left ∷ acts) world) (acts_history lent index (Plays left ∷ acts) world).world) first one in
-          let is = subst (λ (o : Outcome Num). KeyEnds (copies_in o.events) fault index o.world (key_of lent worth index (Plays (left - p.instants) ∷ acts) p.world) (acts_history lent index (Plays (left - p.instants) ∷ acts) p.world).world) second other in
+          let was = subst (λ (o : Outcome Num). KeyEnds (copies_in o.events) fault index o.world (key_of lent worth index (Plays left ∷ acts) world) (acts_end lent index (Plays left ∷ acts) world)) first one in
+          let is = subst (λ (o : Outcome Num). KeyEnds (copies_in o.events) fault index o.world (key_of lent worth index (Plays (left - p.instants) ∷ acts) p.world) (acts_end lent index (Plays (left - p.instants) ∷ acts) p.world)) second other in
           record { text_is = was.text_is ∙ parts (refusal_line (refusal_at fault index)) ∙ ap (λ (text : List ℕ). copy_lines worth (copies_in p.events) ++ text) (sym is.text_is); ends_at = was.ends_at ∙ sym is.ends_at }
 
   module _ (index : ℕ) (acts : List (Act Num)) (world : World Num) (here : world.position ≡ None) where
     -- a play that is over
-    pub play_over : KeyAfter [] (next_index index) acts world (key_of lent worth index (Plays 0 ∷ acts) world) (acts_history lent index (Plays 0 ∷ acts) world).world
+    pub play_over : KeyAfter [] (next_index index) acts world (key_of lent worth index (Plays 0 ∷ acts) world) (acts_end lent index (Plays 0 ∷ acts) world)
     unfolding playing copies_in
     play_over =
         let e = called_play 0 world here in
-        subst (λ (o : Outcome Num). KeyAfter (copies_in o.events) (next_index index) acts o.world (key_of lent worth index (Plays 0 ∷ acts) world) (acts_history lent index (Plays 0 ∷ acts) world).world) e
+        subst (λ (o : Outcome Num). KeyAfter (copies_in o.events) (next_index index) acts o.world (key_of lent worth index (Plays 0 ∷ acts) world) (acts_end lent index (Plays 0 ∷ acts) world)) e
         (act_done index (Plays 0) acts world (ap (λ (o : Outcome Num). declined o.answer) e))
 
     -- one whose next instant is refused
     pub play_refused :
         (left : ℕ) (fault : RunFault) → 0 < left → opening lent world ≡ Err fault
-        → KeyEnds [] fault index world (key_of lent worth index (Plays left ∷ acts) world) (acts_history lent index (Plays left ∷ acts) world).world
+        → KeyEnds [] fault index world (key_of lent worth index (Plays left ∷ acts) world) (acts_end lent index (Plays left ∷ acts) world)
     unfolding copies_in
     play_refused left fault h refuses =
         let e = called_play left world here ∙ ap (plays_on lent world) (refused_next lent left world fault h refuses) in
-        subst (λ (o : Outcome Num). KeyEnds (copies_in o.events) fault index o.world (key_of lent worth index (Plays left ∷ acts) world) (acts_history lent index (Plays left ∷ acts) world).world) e
+        subst (λ (o : Outcome Num). KeyEnds (copies_in o.events) fault index o.world (key_of lent worth index (Plays left ∷ acts) world) (acts_end lent index (Plays left ∷ acts) world)) e
         (act_declined index (Plays left) acts world fault (ap (λ (o : Outcome Num). declined o.answer) e))
 
     module _ (damage : Damage Num) where
       -- a damage that is done
-      pub damage_done : (next : World Num) → damaging lent.field damage world ≡ Ok next → KeyAfter [] (next_index index) acts next (key_of lent worth index (Damages damage ∷ acts) world) (acts_history lent index (Damages damage ∷ acts) world).world
+      pub damage_done : (next : World Num) → damaging lent.field damage world ≡ Ok next → KeyAfter [] (next_index index) acts next (key_of lent worth index (Damages damage ∷ acts) world) (acts_end lent index (Damages damage ∷ acts) world)
       unfolding copies_in
       damage_done next is =
           let e = called_damage damage world here ∙ ap (moves_on lent world (λ next. Damaged ∷ [])) is in
-          subst (λ (o : Outcome Num). KeyAfter (copies_in o.events) (next_index index) acts o.world (key_of lent worth index (Damages damage ∷ acts) world) (acts_history lent index (Damages damage ∷ acts) world).world) e
+          subst (λ (o : Outcome Num). KeyAfter (copies_in o.events) (next_index index) acts o.world (key_of lent worth index (Damages damage ∷ acts) world) (acts_end lent index (Damages damage ∷ acts) world)) e
           (act_done index (Damages damage) acts world (ap (λ (o : Outcome Num). declined o.answer) e))
 
       -- and one that is declined
       pub damage_declined :
           (fault : RunFault) → damaging lent.field damage world ≡ Err fault
-          → KeyEnds [] fault index world (key_of lent worth index (Damages damage ∷ acts) world) (acts_history lent index (Damages damage ∷ acts) world).world
+          → KeyEnds [] fault index world (key_of lent worth index (Damages damage ∷ acts) world) (acts_end lent index (Damages damage ∷ acts) world)
       unfolding copies_in
       damage_declined fault is =
           let e = called_damage damage world here ∙ ap (moves_on lent world (λ next. Damaged ∷ [])) is in
-          subst (λ (o : Outcome Num). KeyEnds (copies_in o.events) fault index o.world (key_of lent worth index (Damages damage ∷ acts) world) (acts_history lent index (Damages damage ∷ acts) world).world) e
+          subst (λ (o : Outcome Num). KeyEnds (copies_in o.events) fault index o.world (key_of lent worth index (Damages damage ∷ acts) world) (acts_end lent index (Damages damage ∷ acts) world)) e
           (act_declined index (Damages damage) acts world fault (ap (λ (o : Outcome Num). declined o.answer) e))
 
   -- behind the last act nothing is left
-  pub no_acts : (index : ℕ) (world : World Num) → (key_of lent worth index [] world ≡ []) × ((acts_history lent index [] world).world ≡ world)
+  pub no_acts : (index : ℕ) (world : World Num) → (key_of lent worth index [] world ≡ []) × (acts_end lent index [] world ≡ record { world = world; refusal = None })
   unfolding acted history copies_in copy_lines
   no_acts index world = (refl, refl)

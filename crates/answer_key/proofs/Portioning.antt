@@ -6,6 +6,7 @@ use Rattle.std.proofs.Math.Nat.{sub-zero}
 use Rattle.std.proofs.Math.Seq.{take-append_seam}
 use Rattle.std.proofs.lemmas.Option.{slice_get-get_or}
 use Rattle.std.specs.List.{slice_get}
+use Rattle.std.specs.Option.{option_map}
 use Rattle.std.specs.Prelude.{◌-◌, codes, decimal, sum_by}
 use Rattle.field.specs.declared.Act.{Act}
 use Rattle.field.specs.declared.Act.TheVariants.{Play as Plays, Damage as Damages}
@@ -21,12 +22,12 @@ use Rattle.history.specs.declared.taking.TakenCopy.{TakenCopy}
 use Rattle.history.proofs.Kept.{carried_from, copied, granted_ok, no_instant, ok_is, onward_from, played, playing_done, playing_ends, tried_done, went_on}
 use Rattle.history.proofs.PlayLaws.{play_laws}
 use Rattle.refusal.specs.declared.RunFault.{RunFault}
-use Rattle.answer_key.specs.Keys.{acts_history, key_of, next_index, refusal_at}
+use Rattle.answer_key.specs.Keys.{acts_end, key_of, next_index, refusal_at}
 use Rattle.answer_key.specs.Lines.{copy_line, copy_lines, refusal_line}
-use Rattle.answer_key.specs.Portions.{Printed, Short, Standing, Whole, acts_left, behind, end_ahead, end_of, standing, steps, steps_left, text_ahead, text_left, waiting}
+use Rattle.answer_key.specs.Portions.{Printed, Short, Standing, Whole, acts_left, behind, end_of, ended_at, fault_ahead, standing, steps, steps_left, text_left, waiting}
 use Rattle.answer_key.specs.Steps.{Damaged, LinesPrinted, LinesUnprinted, NotPlayed, PlayedOn, RefusalPrinted, RefusalUnprinted, Unwritten, Written, act_on, instants_on, lines_on, played_on, refused_by}
 use Rattle.answer_key.specs.declared.states.Ahead.{Ahead}
-use Rattle.answer_key.specs.declared.states.Ahead.TheVariants.{Acts, Refusal, Nothing}
+use Rattle.answer_key.specs.declared.states.Ahead.TheVariants.{Acts, Refusal}
 use Rattle.answer_key.specs.declared.lines.KeyRefusal.{KeyRefusal}
 use Rattle.answer_key.specs.declared.states.Bookmark.{Bookmark}
 use Rattle.answer_key.proofs.Acting.{KeyAfter, KeyEnds, damage_declined, damage_done, lines_joined, no_acts, no_lines, play_over, play_part, play_refused}
@@ -92,8 +93,8 @@ module _
   text_is : text_left worth acts (standing lent mark world log page) ≡ copy_lines worth copies ++ key_of lent worth mark.index left world
   text_is = rw (going, waits, lefts) refl
 
-  end_is : end_of worth acts (standing lent mark world log page) ≡ (acts_history lent mark.index left world).world
-  end_is = rw going (ap (λ (l : List (Act Num)). (acts_history lent mark.index l world).world) lefts)
+  end_is : end_of worth acts (standing lent mark world log page) ≡ (acts_end lent mark.index left world)
+  end_is = rw going (ap (λ (l : List (Act Num)). (acts_end lent mark.index l world)) lefts)
 
   steps_are : steps_left worth acts (standing lent mark world log page) ≡ suc (sum_by steps left)
   steps_are = rw (going, lefts) refl
@@ -113,7 +114,7 @@ module _
     text_at : text_left worth acts at ≡ key_of lent worth mark.index left world
     text_at = text_is lent worth acts mark world log page going [] none left lefts ∙ ap (λ (text : List ℕ). text ++ key_of lent worth mark.index left world) (no_lines worth)
 
-    end_at : end_of worth acts at ≡ (acts_history lent mark.index left world).world
+    end_at : end_of worth acts at ≡ (acts_end lent mark.index left world)
     end_at = end_is lent worth acts mark world log page going [] none left lefts
 
     steps_at : steps_left worth acts at ≡ suc (sum_by steps left)
@@ -124,7 +125,8 @@ module _
   no_act past =
       let over : acts_left mark acts ≡ [] = ap (behind mark.played) (drop_all mark.act acts (none_there acts mark.act past)) in
       let last = no_acts lent worth mark.index world in
-      record { same = refl; text = text_at [] over ∙ last.0; at_end = end_at [] over ∙ last.1 }
+      let unrefused : ended_at world None ≡ ended_at world (option_map (λ fault. refusal_at fault mark.index) (fault_ahead mark.ahead)) = rw going refl in
+      record { same = refl; text = text_at [] over ∙ last.0; at_end = end_at [] over ∙ last.1 ∙ unrefused }
 
   -- a step that prints nothing
   goes :
@@ -167,7 +169,7 @@ module _
             let is = ok_is _ next (granted_ok _ _ next e) in
             goes (act_on mark) after log
             (text_is lent worth acts (act_on mark) after log page going [] none rest open_acts ∙ ap (λ (w : World Num). copy_lines worth [] ++ key_of lent worth (next_index mark.index) rest w) done.stands ∙ sym (text_at all damage_left ∙ on.text_is))
-            (end_is lent worth acts (act_on mark) after log page going [] none rest open_acts ∙ ap (λ (w : World Num). (acts_history lent (next_index mark.index) rest w).world) done.stands ∙ sym (end_at all damage_left ∙ on.ends_at))
+            (end_is lent worth acts (act_on mark) after log page going [] none rest open_acts ∙ ap (λ (w : World Num). (acts_end lent (next_index mark.index) rest w)) done.stands ∙ sym (end_at all damage_left ∙ on.ends_at))
             (let now = steps_are lent worth acts (act_on mark) after log page going [] none rest open_acts in omega (arith, now, damage_steps))
             (let same_instant : after.instant ≡ world.instant = ap (λ (w : World Num). w.instant) (done.stands ∙ sym is) in omega arith)
             given new same done.mark_is
@@ -175,7 +177,7 @@ module _
             let off = damage_declined lent worth mark.index rest world here damage fault e in
             goes (refused_by fault mark) after log
             (rw none refl ∙ sym (text_at all damage_left ∙ off.text_is))
-            (done.stands ∙ sym (end_at all damage_left ∙ off.ends_at))
+            (ap (λ (w : World Num). ended_at w (Some (refusal_at fault mark.index))) done.stands ∙ sym (end_at all damage_left ∙ off.ends_at))
             (omega (arith, damage_steps))
             (let same_instant : after.instant ≡ world.instant = ap (λ (w : World Num). w.instant) done.stands in omega arith)
             given new same done.mark_is
@@ -230,7 +232,7 @@ module _
       few_instants : after.instant ≤ world.instant + 65536
       few_instants = let passed = ap (λ (w : World Num). w.instant) stands ∙ instants_pass lent (min left 65536) (length log) world in omega (arith, passed, within)
 
-      on : KeyAfter lent worth copies mark.index (Plays (left - p.instants) ∷ rest) p.world (key_of lent worth mark.index (Plays left ∷ rest) world) (acts_history lent mark.index (Plays left ∷ rest) world).world
+      on : KeyAfter lent worth copies mark.index (Plays (left - p.instants) ∷ rest) p.world (key_of lent worth mark.index (Plays left ∷ rest) world) (acts_end lent mark.index (Plays left ∷ rest) world)
       on = play_part lent worth (min left 65536) (length log) left mark.index rest world here still (omega arith)
 
       -- play goes on, or is over
@@ -246,14 +248,14 @@ module _
               let open_acts = none_behind rest in
               let then_text : key_of lent worth mark.index (Plays (left - p.instants) ∷ rest) p.world ≡ key_of lent worth (next_index mark.index) rest p.world =
               ap (λ (k : ℕ). key_of lent worth mark.index (Plays k ∷ rest) p.world) all_played ∙ over.text_is ∙ ap (λ (text : List ℕ). text ++ key_of lent worth (next_index mark.index) rest p.world) (no_lines worth) in
-              let then_end : (acts_history lent mark.index (Plays (left - p.instants) ∷ rest) p.world).world ≡ (acts_history lent (next_index mark.index) rest p.world).world =
-              ap (λ (k : ℕ). (acts_history lent mark.index (Plays k ∷ rest) p.world).world) all_played ∙ over.ends_at in
+              let then_end : (acts_end lent mark.index (Plays (left - p.instants) ∷ rest) p.world) ≡ (acts_end lent (next_index mark.index) rest p.world) =
+              ap (λ (k : ℕ). (acts_end lent mark.index (Plays k ∷ rest) p.world)) all_played ∙ over.ends_at in
               goes (act_on logged) after logs
               (text_is lent worth acts (act_on logged) after logs page going copies waits rest open_acts
               ∙ ap (λ (w : World Num). copy_lines worth copies ++ key_of lent worth (next_index mark.index) rest w) stands
               ∙ sym (text_at (Plays left ∷ rest) play_left ∙ on.text_is ∙ ap (λ (text : List ℕ). copy_lines worth copies ++ text) then_text))
               (end_is lent worth acts (act_on logged) after logs page going copies waits rest open_acts
-              ∙ ap (λ (w : World Num). (acts_history lent (next_index mark.index) rest w).world) stands
+              ∙ ap (λ (w : World Num). (acts_end lent (next_index mark.index) rest w)) stands
               ∙ sym (end_at (Plays left ∷ rest) play_left ∙ on.ends_at ∙ then_end))
               (let now = steps_are lent worth acts (act_on logged) after logs page going copies waits rest open_acts in omega (arith, now, play_steps))
               few_instants given new same (is ∙ ap (λ (b : Bool). cond b (act_on logged) (record logged { played = mark.played + p.instants })) e)
@@ -267,7 +269,7 @@ module _
               ∙ ap (λ (w : World Num). copy_lines worth copies ++ key_of lent worth mark.index (Plays (left - p.instants) ∷ rest) w) stands
               ∙ sym (text_at (Plays left ∷ rest) play_left ∙ on.text_is))
               (end_is lent worth acts next after logs page going copies waits (Plays (left - p.instants) ∷ rest) lefts
-              ∙ ap (λ (w : World Num). (acts_history lent mark.index (Plays (left - p.instants) ∷ rest) w).world) stands
+              ∙ ap (λ (w : World Num). (acts_end lent mark.index (Plays (left - p.instants) ∷ rest) w)) stands
               ∙ sym (end_at (Plays left ∷ rest) play_left ∙ on.ends_at))
               (let now = steps_are lent worth acts next after logs page going copies waits (Plays (left - p.instants) ∷ rest) lefts in
               let one = sum_by-cons steps (Plays (left - p.instants)) rest in
@@ -281,7 +283,7 @@ module _
           let off = play_refused lent worth mark.index rest p.world still (left - p.instants) fault (omega (arith, why.0)) why.1 in
           goes (refused_by fault logged) after logs
           (rw waits (ap (λ (text : List ℕ). copy_lines worth copies ++ text) (ap (λ (text : List ℕ). text ++ refusal_line (refusal_at fault mark.index)) (sym (no_lines worth)) ∙ sym off.text_is)) ∙ sym (text_at (Plays left ∷ rest) play_left ∙ on.text_is))
-          (stands ∙ sym off.ends_at ∙ sym (end_at (Plays left ∷ rest) play_left ∙ on.ends_at))
+          (ap (λ (w : World Num). ended_at w (Some (refusal_at fault mark.index))) stands ∙ sym off.ends_at ∙ sym (end_at (Plays left ∷ rest) play_left ∙ on.ends_at))
           (omega (arith, play_steps))
           few_instants given new same is
 

@@ -14,7 +14,7 @@ use Rattle.answer_key.specs.Portions.{Printed, Short, Standing, Whole, end_ahead
 use Rattle.answer_key.specs.Steps.{LinesPrinted, LinesUnprinted, RefusalPrinted, RefusalUnprinted, Unwritten, Written, lines_on}
 use Rattle.answer_key.specs.declared.lines.KeyRefusal.{KeyRefusal}
 use Rattle.answer_key.specs.declared.states.Ahead.{Ahead}
-use Rattle.answer_key.specs.declared.states.Ahead.TheVariants.{Acts, Refusal, Nothing}
+use Rattle.answer_key.specs.declared.states.Ahead.TheVariants.{Acts, Refusal, Refused}
 use Rattle.answer_key.specs.declared.states.Bookmark.{Bookmark}
 use Rattle.answer_key.proofs.Acting.{lines_joined, no_lines}
 
@@ -72,12 +72,12 @@ module _
   same_ahead : (ahead : Ahead) (count : ℕ) (pages : List ℕ) → text_ahead worth acts ahead (standing lent (lines_on count mark) world log pages) ≡ text_ahead worth acts ahead at
   same_ahead Acts count pages = refl
   same_ahead (Refusal fault) count pages = refl
-  same_ahead Nothing count pages = refl
+  same_ahead (Refused fault) count pages = refl
 
   same_end : (ahead : Ahead) (count : ℕ) (pages : List ℕ) → end_ahead worth acts ahead (standing lent (lines_on count mark) world log pages) ≡ end_ahead worth acts ahead at
   same_end Acts count pages = refl
   same_end (Refusal fault) count pages = refl
-  same_end Nothing count pages = refl
+  same_end (Refused fault) count pages = refl
 
   -- the lines that wait behind those
   still_waiting : (count : ℕ) → count ≤ length (waiting mark log) → waiting (lines_on count mark) log ≡ drop count (waiting mark log)
@@ -137,5 +137,5 @@ module _
       short = rw (none, ahead) done.unwritten.too_long;
     }
 
-  pub nothing_portion : waiting mark log ≡ [] → mark.ahead ≡ Nothing → Whole worth acts at at
-  nothing_portion none ahead = record { same = refl; text = rw (none, ahead) (ap (λ (t : List ℕ). t ++ []) (no_lines worth)); at_end = rw ahead refl }
+  pub nothing_portion : (fault : RunFault) → waiting mark log ≡ [] → mark.ahead ≡ Refused fault → Whole worth acts at at
+  nothing_portion fault none ahead = record { same = refl; text = rw (none, ahead) (ap (λ (t : List ℕ). t ++ []) (no_lines worth)); at_end = rw ahead refl }

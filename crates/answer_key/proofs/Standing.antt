@@ -25,7 +25,7 @@ use Rattle.run.specs.Standing.{SameLoans, between, field_given, field_told, give
 use Rattle.run.specs.declared.lending.Lent.{Lent}
 use Rattle.run.specs.declared.states.Idle.{Idle}
 use Rattle.answer_key.proofs.Acting.{between_call}
-use Rattle.answer_key.specs.Keys.{acted, acts_history, key_of}
+use Rattle.answer_key.specs.Keys.{acted, acts_end, key_of}
 use Rattle.answer_key.specs.Lines.{copy_lines}
 use Rattle.answer_key.specs.Portions.{BeginsWhole, Settling, behind}
 use Rattle.answer_key.specs.declared.states.Ahead.TheVariants.{Acts}
@@ -64,7 +64,7 @@ unfolding copy_lines
 begins_whole {Num} worth index lent world [] log page = (refl, refl)
 begins_whole {Num} worth index lent world (Plays budget ∷ acts) log page =
     let unplayed : behind 0 (Plays budget ∷ acts) ≡ Plays budget ∷ acts = ap (λ (k : ℕ). Plays k ∷ acts) (sub-zero budget) in
-    (ap (λ (left : List (Act Num)). key_of lent worth index left world) unplayed, ap (λ (left : List (Act Num)). (acts_history lent index left world).world) unplayed)
+    (ap (λ (left : List (Act Num)). key_of lent worth index left world) unplayed, ap (λ (left : List (Act Num)). (acts_end lent index left world)) unplayed)
 begins_whole {Num} worth index lent world (Damages damage ∷ acts) log page = (refl, refl)
 
 -- A play and a damage leave what a run holds.

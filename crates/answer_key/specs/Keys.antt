@@ -41,6 +41,11 @@ module _ {Num : Type 0} where
   declined (Declines fault) = Some fault
   declined NotLet = None
 
+-- Where a run ends by its acts, and the refusal at which they ended, if one did.
+pub record KeyEnd (Num : Type 0) : Type 0 where
+  pub world : World Num
+  pub refusal : Option KeyRefusal
+
 -- The calls that acts come to, and the refusal at which they end, if one does.
 pub record Acted (Num : Type 0) : Type 0 where
   pub calls : List (Call Num)
@@ -69,6 +74,9 @@ module _ {Num : Type 0} (lent : Lent Num) where
   -- the key: a line for each copy of that history, and behind them the refusal
   abbrev pub key_of : (Num → ℕ) → ℕ → List (Act Num) → World Num → List ℕ
   key_of worth index acts world = key_text worth (copies_in (acts_history index acts world).events) (acted index acts world).refusal
+
+  abbrev pub acts_end : ℕ → List (Act Num) → World Num → KeyEnd Num
+  acts_end index acts world = record { world = (acts_history index acts world).world; refusal = (acted index acts world).refusal }
 
   -- The floods whose copies a key has settle.
   abbrev pub KeySettles : ℕ → List (Act Num) → World Num → Type 0

@@ -1,5 +1,6 @@
 -- Where a key stands, and what a portion of it makes of that. Assumes nothing.
 use Rattle.std.specs.Prelude.{◌≡◌, ℕ, zero, suc, ◌+◌, ◌-◌, ◌<◌, ◌≤◌, ◌⊎◌, List, [], ◌∷◌, ◌++◌, length, take, drop, sum_by, Some, None, Ok, Err, Option, Result}
+use Rattle.std.specs.Option.{option_map}
 use Rattle.std.specs.Result.{result_map_both}
 use Rattle.field.specs.declared.Act.{Act}
 use Rattle.field.specs.declared.Act.TheVariants.{Play as Plays, Damage as Damages}
@@ -11,12 +12,19 @@ use Rattle.history.specs.declared.TakenCopy.{TakenCopy}
 use Rattle.refusal.specs.declared.RunFault.{RunFault}
 use Rattle.refusal.specs.declared.RunFault.TheVariants.{NoRoom}
 use Rattle.run.specs.declared.states.Idle.{Idle}
-use Rattle.answer_key.specs.Keys.{KeySettles, acts_history, key_of, refusal_at}
+use Rattle.answer_key.specs.Keys.{KeyEnd, KeySettles, acts_end, key_of, refusal_at}
 use Rattle.answer_key.specs.Lines.{copy_line, copy_lines, refusal_line}
+use Rattle.answer_key.specs.declared.lines.KeyRefusal.{KeyRefusal}
 use Rattle.answer_key.specs.declared.states.Ahead.{Ahead}
-use Rattle.answer_key.specs.declared.states.Ahead.TheVariants.{Acts, Refusal, Nothing}
+use Rattle.answer_key.specs.declared.states.Ahead.TheVariants.{Acts, Refusal, Refused}
 use Rattle.answer_key.specs.declared.states.AnswerKey.{AnswerKey}
 use Rattle.answer_key.specs.declared.states.Bookmark.{Bookmark}
+
+-- the fault at which the acts have ended
+abbrev pub fault_ahead : Ahead → Option RunFault
+fault_ahead Acts = None
+fault_ahead (Refusal fault) = Some fault
+fault_ahead (Refused fault) = Some fault
 
 abbrev pub run_of : Result AnswerKey RunFault → Result Idle RunFault
 run_of result = result_map_both (λ key. key.run) (λ fault. fault) result
@@ -51,31 +59,34 @@ module _ {Num : Type 0} where
   steps (Plays budget) = suc budget
   steps (Damages damage) = 1
 
+abbrev pub ended_at : {Num : Type 0} → World Num → Option KeyRefusal → KeyEnd Num
+ended_at world refusal = record { world = world; refusal = refusal }
+
 module _ {Num : Type 0} (worth : Num → ℕ) (acts : List (Act Num)) where
   -- what is left of a key behind the lines that wait
   abbrev pub text_ahead : Ahead → Standing Num → List ℕ
   text_ahead Acts at = key_of at.lent worth at.mark.index (acts_left at.mark acts) at.world
   text_ahead (Refusal fault) at = refusal_line (refusal_at fault at.mark.index)
-  text_ahead Nothing at = []
+  text_ahead (Refused fault) at = []
 
   -- what is left of it
   abbrev pub text_left : Standing Num → List ℕ
   text_left at = copy_lines worth (waiting at.mark at.log) ++ text_ahead at.mark.ahead at
 
-  -- where its run ends
-  abbrev pub end_ahead : Ahead → Standing Num → World Num
-  end_ahead Acts at = (acts_history at.lent at.mark.index (acts_left at.mark acts) at.world).world
-  end_ahead (Refusal fault) at = at.world
-  end_ahead Nothing at = at.world
+  -- where its run ends, and by which refusal
+  abbrev pub end_ahead : Ahead → Standing Num → KeyEnd Num
+  end_ahead Acts at = acts_end at.lent at.mark.index (acts_left at.mark acts) at.world
+  end_ahead (Refusal fault) at = ended_at at.world (Some (refusal_at fault at.mark.index))
+  end_ahead (Refused fault) at = ended_at at.world (Some (refusal_at fault at.mark.index))
 
-  abbrev pub end_of : Standing Num → World Num
+  abbrev pub end_of : Standing Num → KeyEnd Num
   end_of at = end_ahead at.mark.ahead at
 
   -- how many steps it is from there
   abbrev pub steps_ahead : Ahead → Bookmark → ℕ
   steps_ahead Acts mark = suc (sum_by steps (acts_left mark acts))
   steps_ahead (Refusal fault) mark = 1
-  steps_ahead Nothing mark = 0
+  steps_ahead (Refused fault) mark = 0
 
   abbrev pub steps_left : Standing Num → ℕ
   steps_left at = steps_ahead at.mark.ahead at.mark
@@ -95,13 +106,13 @@ module _ {Num : Type 0} (worth : Num → ℕ) (acts : List (Act Num)) where
   pub record Whole (old new : Standing Num) : Type 0 where
     pub same : new ≡ old
     pub text : text_left old ≡ []
-    pub at_end : end_of old ≡ old.world
+    pub at_end : end_of old ≡ ended_at old.world (option_map (λ fault. refusal_at fault old.mark.index) (fault_ahead old.mark.ahead))
 
   -- The page is too short for the next line,
   abbrev pub refusal_short : Ahead → Standing Num → Type 0
   refusal_short Acts at = tried at.lent (length at.log) at.world ≡ Ends LogShort
   refusal_short (Refusal fault) at = length at.page < length (refusal_line (refusal_at fault at.mark.index))
-  refusal_short Nothing at = ⊥
+  refusal_short (Refused fault) at = ⊥
 
   -- or the log for the next instant.
   abbrev pub line_short : List (TakenCopy Num) → Standing Num → Type 0
@@ -123,7 +134,7 @@ module _ {Num : Type 0} (worth : Num → ℕ) (acts : List (Act Num)) where
 abbrev pub BeginsWhole : {Num : Type 0} → (Num → ℕ) → ℕ → Given Num → Bookmark → World Num → Type 0
 BeginsWhole {Num} worth index lent mark world =
     (acts : List (Act Num)) (log : List (TakenCopy Num)) (page : List ℕ) → let at = standing lent mark world log page in
-    (text_left worth acts at ≡ key_of lent worth index acts world) × (end_of worth acts at ≡ (acts_history lent index acts world).world)
+    (text_left worth acts at ≡ key_of lent worth index acts world) × (end_of worth acts at ≡ (acts_end lent index acts world))
 
 -- The floods of each key settle.
 abbrev pub Settling : {Num : Type 0} → ℕ → Given Num → World Num → Type 0

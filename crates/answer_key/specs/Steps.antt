@@ -3,14 +3,14 @@ use Rattle.std.specs.Prelude.{◌≡◌, ℕ, suc, ◌+◌, ◌-◌, ◌<◌, �
 use Rattle.history.specs.Plays.{Played, copies_in}
 use Rattle.history.specs.Worlds.{World}
 use Rattle.history.specs.declared.Ending.{Ending}
-use Rattle.history.specs.declared.Ending.TheVariants.{BudgetSpent, LogShort, Refused}
+use Rattle.history.specs.declared.Ending.TheVariants.{BudgetSpent, LogShort, Refused as RefusedNext}
 use Rattle.history.specs.declared.TakenCopy.{TakenCopy}
 use Rattle.refusal.specs.declared.RunFault.{RunFault}
 use Rattle.refusal.specs.declared.RunFault.TheVariants.{NoRoom}
 use Rattle.answer_key.specs.Keys.{next_index, refusal_at}
 use Rattle.answer_key.specs.Lines.{copy_lines, refusal_line}
 use Rattle.answer_key.specs.Portions.{waiting}
-use Rattle.answer_key.specs.declared.states.Ahead.TheVariants.{Refusal, Nothing}
+use Rattle.answer_key.specs.declared.states.Ahead.TheVariants.{Refusal, Refused}
 use Rattle.answer_key.specs.declared.states.Bookmark.{Bookmark}
 
 -- so many lines are printed
@@ -61,7 +61,7 @@ module _ {Num : Type 0} (worth : Num → ℕ) where
 
 -- the line of the refusal at which the acts ended
 pub record RefusalPrinted (ending : RunFault) (old new : Bookmark) (page pages : List ℕ) (size : ℕ) : Type 0 where
-  pub mark_is : new ≡ record old { ahead = Nothing }
+  pub mark_is : new ≡ record old { ahead = Refused ending }
   pub written : Written (refusal_line (refusal_at ending old.index)) page pages size
 
 pub record RefusalUnprinted (ending : RunFault) (old new : Bookmark) (page pages : List ℕ) (fault : RunFault) : Type 0 where
@@ -82,7 +82,7 @@ module _ {Num : Type 0} where
   abbrev pub played_on : Ending → ℕ → Played Num → Bookmark → Bookmark
   played_on BudgetSpent budget p mark = instants_on p.instants budget (record mark { first = 0; lines = length (copies_in p.events) })
   played_on LogShort budget p mark = instants_on p.instants budget (record mark { first = 0; lines = length (copies_in p.events) })
-  played_on (Refused fault) budget p mark = refused_by fault (record mark { first = 0; lines = length (copies_in p.events) })
+  played_on (RefusedNext fault) budget p mark = refused_by fault (record mark { first = 0; lines = length (copies_in p.events) })
 
   pub record PlayedOn (p : Played Num) (budget : ℕ) (old new : Bookmark) (after : World Num) (log logs : List (TakenCopy Num)) : Type 0 where
     pub stands : after ≡ p.world

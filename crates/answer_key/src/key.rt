@@ -3,9 +3,9 @@ ghost use Rattle.std.specs.Prelude.{◌≡◌, ◌+◌, ℕ, ◌-◌, ◌<◌, I
 ghost use Rattle.answer_key.specs.declared.states.Ahead.TheVariants.{Acts};
 ghost use Rattle.history.specs.Calls.{begun, damaging, finishing};
 ghost use Rattle.history.specs.Plays.{playing};
-ghost use Rattle.run.specs.Answers.{began, begun_as};
+ghost use Rattle.run.specs.Answers.{began, begun_as, or_back};
 ghost use Rattle.run.specs.Standing.{SameLoans, between, field_given, field_told, given};
-ghost use Rattle.answer_key.specs.Portions.{BeginsWhole, Portion, Settling, run_of, standing, waiting};
+ghost use Rattle.answer_key.specs.Portions.{BeginsWhole, Portion, Settling, fault_ahead, run_of, standing, waiting};
 ghost use Rattle.answer_key.specs.Steps.{Damaged, PlaysOn, PrintsLines, PrintsRefusal, act_on, instants_on};
 
 use crate::lines::{KeyRefusal, LONGEST_LINE, print};
@@ -15,7 +15,7 @@ use field::{Act, Damage, Settings};
 use history::{Counts, Ending, TakenCopy};
 use numbering::{NumberKind, Numbering, Zero};
 use refusal::RunFault;
-use run::{Idle, Lent};
+use run::{Declined, Idle, Lent};
 
 /// The most instants that a portion plays, so that lines come as they fall.
 pub const PORTION: u32 = 65_536;
@@ -66,7 +66,38 @@ impl AnswerKey {
                 let size = self.mark.print_refusal(fault, page)?;
                 Ok(Some(size))
             }
-            Ahead::Nothing => Ok(None),
+            Ahead::Refused(_) => Ok(None),
+        }
+    }
+
+    /// The refusal at which the acts ended, once they have; its line may still wait to be printed.
+    pub fn fault(&self) -> Option<RunFault>
+        ensures { result ≡ fault_ahead self.now.mark.ahead }
+    {
+        match self.mark.ahead {
+            Ahead::Acts => None,
+            Ahead::Refusal(fault) | Ahead::Refused(fault) => Some(fault),
+        }
+    }
+
+    /// Ends the key...
+    pub fn finish<N: Numbering, D, A>(
+        self,
+        lent: &Lent<N, D, A>,
+    ) -> Result<Counts, Declined<AnswerKey>>
+        ensures { result ≡ or_back self (finishing (field_given N.Numbering.meaning self.run.progress lent.now) (between self.run lent.now)) }
+    {
+        let AnswerKey { run, mark } = self;
+        match run.finish(lent) {
+            Ok(counts) => Ok(counts),
+            Err(
+                Declined { run, fault },
+            ) => Err(
+                Declined {
+                    run: AnswerKey { run, mark },
+                    fault,
+                },
+            ),
         }
     }
 
@@ -193,7 +224,7 @@ impl Bookmark {
         };
         let none: &[TakenCopy<Zero>] = &[];
         let size = print(none, Some(refusal), page)?;
-        self.ahead = Ahead::Nothing;
+        self.ahead = Ahead::Refused(fault);
         Ok(size)
     }
 }

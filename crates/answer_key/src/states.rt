@@ -9,7 +9,8 @@ pub enum Ahead {
     Acts,
     // the line of the refusal at which the acts ended
     Refusal(RunFault),
-    Nothing,
+    // nothing, since that line is printed
+    Refused(RunFault),
 }
 
 // How far a key has come in the acts, and in the log.

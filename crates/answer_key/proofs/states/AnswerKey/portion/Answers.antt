@@ -28,8 +28,8 @@ returns-in_ok-size-in-Refusal-clause-value g c =
     let new = c.print_refusal.new in
     refusal_portion inputs g.N.Number.NumberKind.worth c.args.acts.now key.mark (between key.run c.args.lent.now) c.args.log.now c.args.page.now c.in-Refusal.fault inputs new.self new.page refl (no_row c.waiting.ensures c.if-not-is_empty.ensures) c.in-Refusal.is _ c.in_ok-size-in-Refusal.ensures
 
-pub returns-in-Nothing-clause-value : goal.returns-in-Nothing-clause-value
-returns-in-Nothing-clause-value g c =
+pub returns-in-Refused-clause-value : goal.returns-in-Refused-clause-value
+returns-in-Refused-clause-value g c =
     let key = c.args.self.now in
     let inputs = given g.N.Numbering.meaning g.D.DelayRule.period g.A.Air.carries key.run.progress c.args.lent.now in
-    nothing_portion inputs g.N.Number.NumberKind.worth c.args.acts.now key.mark (between key.run c.args.lent.now) c.args.log.now c.args.page.now (no_row c.waiting.ensures c.if-not-is_empty.ensures) c.in-Nothing.is
+    nothing_portion inputs g.N.Number.NumberKind.worth c.args.acts.now key.mark (between key.run c.args.lent.now) c.args.log.now c.args.page.now _ (no_row c.waiting.ensures c.if-not-is_empty.ensures) c.in-Refused.is
