@@ -2,4 +2,5 @@ pub mod Keys
 pub mod Lines
 pub mod Portions
 pub mod Reading
+pub mod Seeds
 pub mod Steps

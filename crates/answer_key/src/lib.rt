@@ -4,10 +4,12 @@
 mod key;
 mod line;
 mod lines;
+mod seeds;
 mod states;
 #[cfg(test)]
 mod tests;
 
 pub use key::PORTION;
 pub use lines::{KeyRefusal, LONGEST_LINE, print};
+pub use seeds::{Seeded, key_air};
 pub use states::AnswerKey;
