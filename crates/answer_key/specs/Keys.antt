@@ -12,7 +12,8 @@ use Rattle.history.specs.Worlds.{Lent, World, told_links}
 use Rattle.history.specs.declared.taking.Ending.{Ending}
 use Rattle.history.specs.declared.taking.Ending.TheVariants.{BudgetSpent, LogShort, Refused}
 use Rattle.page.specs.Pages.{last}
-use Rattle.refusal.specs.Refusals.{run_told}
+use Rattle.refusal.specs.Refusals.{field_told, run_told}
+use Rattle.refusal.specs.declared.FieldFault.{FieldFault}
 use Rattle.refusal.specs.declared.RunFault.{RunFault}
 use Rattle.answer_key.specs.Lines.{key_text}
 use Rattle.answer_key.specs.declared.lines.KeyRefusal.{KeyRefusal}
@@ -20,6 +21,10 @@ use Rattle.answer_key.specs.declared.lines.KeyRefusal.{KeyRefusal}
 -- a fault, told by its number and by the index of the record at which it came
 abbrev pub refusal_at : RunFault → ℕ → KeyRefusal
 refusal_at fault index = record { number = (run_told fault).number; index = index }
+
+-- the fault of a file that is no field, by the record at which it lies
+abbrev pub refusal_in_file : FieldFault → KeyRefusal
+refusal_in_file fault = record { number = (field_told fault).number; index = (field_told fault).place }
 
 -- the index of the record behind one; a file's are far below the last number there is
 abbrev pub next_index : ℕ → ℕ

@@ -12,7 +12,9 @@ use crate::lines::{KeyRefusal, LONGEST_LINE, print};
 use crate::states::{Ahead, AnswerKey, Bookmark};
 use air::{Air, DelayRule};
 use field::{Act, Damage, Settings};
+use filed::Filed;
 use history::{Counts, Ending, TakenCopy};
+use loading::FileUnder;
 use numbering::{NumberKind, Numbering, Zero};
 use refusal::RunFault;
 use run::{Declined, Idle, Lent};
@@ -80,6 +82,13 @@ impl AnswerKey {
         }
     }
 
+    /// The index of the next act's record, or of the one at which the acts ended.
+    pub fn index(&self) -> usize
+        ensures { result ≡ self.now.mark.index }
+    {
+        self.mark.index
+    }
+
     /// Ends the key...
     pub fn finish<N: Numbering, D, A>(
         self,
@@ -90,14 +99,10 @@ impl AnswerKey {
         let AnswerKey { run, mark } = self;
         match run.finish(lent) {
             Ok(counts) => Ok(counts),
-            Err(
-                Declined { run, fault },
-            ) => Err(
-                Declined {
-                    run: AnswerKey { run, mark },
-                    fault,
-                },
-            ),
+            Err(Declined { run, fault }) => Err(Declined {
+                run: AnswerKey { run, mark },
+                fault,
+            }),
         }
     }
 
@@ -121,12 +126,19 @@ impl AnswerKey {
         Ok(Some(0))
     }
 
-    // The damage that is the next act.
-    fn damage<N: Numbering, D, A>(
-        &mut self,
+    /// Begins the key of a field file, whose rows and links stand in front of what is lent: with the file's settings, with all its links
+    /// told, and with the record behind those of rows, links and losses as the first act's. It is `begin` in all else.
+    pub fn of_file<N: Filed, D: DelayRule, A: Air>(
+        file: &FileUnder<N>,
         lent: &mut Lent<N, D, A>,
-        damage: Damage<N::Number>,
-    )
+    ) -> Result<AnswerKey, RunFault> {
+        let counts = file.counts();
+        let first_act = 1 + counts.rows + counts.links + counts.losses;
+        AnswerKey::begin(file.rules().settings, counts.links, first_act, lent)
+    }
+
+    // The damage that is the next act.
+    fn damage<N: Numbering, D, A>(&mut self, lent: &mut Lent<N, D, A>, damage: Damage<N::Number>)
         requires { self.old.mark.act + 1 < 18446744073709551616 }
         ensures value { let world = between self.old.run lent.old in Damaged self.old.mark self.new.mark world (between self.new.run lent.new) (damaging (field_given N.Numbering.meaning self.old.run.progress lent.old) damage world) }
         ensures lent { SameLoans lent.old lent.new }
@@ -218,10 +230,7 @@ impl Bookmark {
     fn print_refusal(&mut self, fault: RunFault, page: &mut [u8]) -> Result<usize, RunFault>
         ensures { PrintsRefusal fault self.old self.new page.old page.new result }
     {
-        let refusal = KeyRefusal {
-            number: fault.told().number,
-            index: self.index,
-        };
+        let refusal = KeyRefusal::of_run(fault, self.index);
         let none: &[TakenCopy<Zero>] = &[];
         let size = print(none, Some(refusal), page)?;
         self.ahead = Ahead::Refused(fault);

@@ -9,4 +9,4 @@ returns-clause-whole g c = begins_whole g.N.Number.NumberKind.worth c.args.index
 pub returns-clause-settles : goal.returns-clause-settles
 returns-clause-settles g c =
     key_settles g.N.Numbering.meaning c.args.settings c.args.count c.args.lent.now c.begin.new.lent c.in_ok-run.run' g.D.DelayRule.period g.A.Air.carries
-        (g.met.D.DelayRule.keeps c.begin.new.lent.delay.now) (search rules) c.in_ok-run.ensures.lent c.in_ok-run.ensures.settles c.args.index
+    (g.met.D.DelayRule.keeps c.begin.new.lent.delay.now) (search rules) c.in_ok-run.ensures.lent c.in_ok-run.ensures.settles c.args.index
