@@ -6,4 +6,4 @@ mod lines;
 #[cfg(test)]
 mod tests;
 
-pub use lines::{KeyRefusal, print};
+pub use lines::{KeyRefusal, LONGEST_LINE, print};
