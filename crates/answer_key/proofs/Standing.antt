@@ -1,6 +1,7 @@
 -- What a key's run is given, as it begins and from call to call. Assumes nothing.
-use Rattle.std.proofs.Common.{◌≡◌, ℕ, List, [], ◌∷◌, None, Ok, Err, Result, sym, refl, ap, ◌∙◌, subst}
+use Rattle.std.proofs.Common.{◌≡◌, ℕ, List, [], ◌∷◌, None, Some, Ok, Err, Option, Result, sym, refl, ap, ◌∙◌, subst, arith, length, replicate}
 use Rattle.std.proofs.Math.Nat.{sub-zero}
+use Rattle.std.proofs.lemmas.List.{length-replicate}
 use Rattle.air.specs.Airs.{Carrying}
 use Rattle.air.specs.Delays.{KeepsPeriods}
 use Rattle.field.specs.declared.Act.{Act}
@@ -14,20 +15,34 @@ use Rattle.history.specs.Histories.Call.{Damaging, Play}
 use Rattle.history.specs.Plays.{playing}
 use Rattle.history.specs.Plays.Event.{Damages as Damaged}
 use Rattle.history.specs.Settled.{FloodsSettle}
+use Rattle.loading.specs.Loads.{counted}
+use Rattle.checking.specs.Cases.{file_checked}
+use Rattle.filed.specs.Codes.{lawful_value}
+use Rattle.filed.specs.Values.{lawful_of}
+use Rattle.history.specs.declared.taking.TakenCopy.{TakenCopy}
+use Rattle.std.specs.Prelude.{IfOk, IsOkAnd}
 use Rattle.history.specs.Worlds.{Field, Lent as Given, World}
 use Rattle.history.proofs.Kept.{granted_ok, ok_is}
 use Rattle.history.proofs.PlayLaws.{call_laws}
+use Rattle.field.specs.declared.Row.{Row}
+use Rattle.refusal.specs.declared.FieldFault.{FieldFault}
 use Rattle.refusal.specs.declared.RunFault.{RunFault}
 use Rattle.run.proofs.Began.{began_from}
 use Rattle.run.proofs.Loans.{given_same}
-use Rattle.run.specs.Answers.{began, begun_as}
+use Rattle.run.proofs.Returning.{write_laws}
+use Rattle.run.specs.Returning.{IsFile}
+use Rattle.run.specs.Writing.{Filing}
+use Rattle.run.specs.Answers.{Beginning, began, begun_as}
 use Rattle.run.specs.Standing.{SameLoans, between, field_given, field_told, given}
 use Rattle.run.specs.declared.lending.Lent.{Lent}
 use Rattle.run.specs.declared.states.Idle.{Idle}
 use Rattle.answer_key.proofs.Acting.{between_call}
-use Rattle.answer_key.specs.Keys.{acted, acts_end, key_of}
-use Rattle.answer_key.specs.Lines.{copy_lines}
-use Rattle.answer_key.specs.Portions.{BeginsWhole, Settling, behind}
+use Rattle.answer_key.specs.Keys.{acted, acts_end, key_of, refusal_in_file}
+use Rattle.answer_key.specs.Files.{LendsFile, blank_link, blank_loss, blank_row, file_acts, file_field, file_key, file_rows, file_start, first_act}
+use Rattle.answer_key.specs.Lines.{copy_lines, refusal_line}
+use Rattle.answer_key.specs.Portions.{BeginsWhole, Settling, behind, run_of, standing, text_left}
+use Rattle.answer_key.specs.declared.states.AnswerKey.{AnswerKey}
+use Rattle.answer_key.specs.declared.states.Bookmark.{Bookmark}
 use Rattle.answer_key.specs.declared.states.Ahead.TheVariants.{Acts}
 
 module _ {N D A Num : Type 0} (meaning : N → Meaning Num) (settings : Settings) (count : ℕ) (before after : Lent N D A Num) (run : Idle) where
@@ -99,3 +114,82 @@ pub same_given :
 same_given {Num = Num} meaning period carries old new before after world same stands holds =
     given_same meaning period carries old.progress new.progress before after same
     (ap (λ (w : World Num). w.settings) stands ∙ holds.0) (ap (λ (w : World Num). w.count) stands ∙ holds.1)
+
+-- where a file is a field, its key is that of the field
+of_field :
+    (checked : Result (Unit {0}) FieldFault) → checked ≡ Ok tt → (text : List ℕ)
+    → text ≡ elim checked [ Ok passed ↦ text | Err fault ↦ refusal_line (refusal_in_file fault) ]
+of_field checked passes text = rw passes refl
+
+-- The key of a file, as it begins.
+module _
+    {N D A Num : Type 0} (meaning : N → Meaning Num) (period : D → ℕ → ℕ → ℕ → ℕ) (carries : A → Carrying) (of : ℕ → Option Num) (worth : Num → ℕ)
+    (file : List ℕ) (s : Settings) (before after : Lent N D A Num) (number : Num) (lends : LendsFile file s of number before.rows.now before.links.now before.senders.now) where
+  abbrev of_file : Field Num
+  of_file = field_told meaning s (counted file).links before
+
+  -- what is lent is the field of the file
+  same_field : of_file ≡ file_field file of number (meaning before.numbering.now) s
+  same_field = rw lends.links_are refl
+
+  module _ (run : Idle) (is : begun_as after (Ok run) ≡ began before.rows.now before.senders.now (begun of_file before.rows.now before.senders.now)) (same : SameLoans before after) where
+    same_start : between run after ≡ file_start file of number (meaning before.numbering.now) s
+    same_start =
+        let granted = (holds_told meaning s (counted file).links before after run is same).0 in
+        let stands : beginning of_file before.rows.now before.senders.now ≡ between run after = ok_is _ _ (granted_ok _ _ _ granted) in
+        sym stands
+        ∙ ap (λ (f : Field Num). beginning f before.rows.now before.senders.now) same_field
+        ∙ ap (λ (rows : List (Row Num)). beginning (file_field file of number (meaning before.numbering.now) s) rows before.senders.now) lends.rows_are
+        ∙ ap (λ (senders : List ℕ). beginning (file_field file of number (meaning before.numbering.now) s) (file_rows file of number) senders) lends.senders_are
+
+    same_lent : given meaning period carries run.progress after ≡ record { field = file_field file of number (meaning before.numbering.now) s; period = period before.delay.now; carries = carries before.air.now }
+    same_lent = rw (sym (holds_told meaning s (counted file).links before after run is same).1, same_field, same.delay, same.air) refl
+
+    -- and so the whole key of the file is left
+    file_left :
+        (mark : Bookmark) → BeginsWhole worth (first_act file) (given meaning period carries run.progress after) mark (between run after) → file_checked file ≡ Ok tt
+        → (log : List (TakenCopy Num)) (page : List ℕ)
+        → text_left worth (file_acts file of number) (standing (given meaning period carries run.progress after) mark (between run after) log page)
+        ≡ file_key file of number (meaning before.numbering.now) s worth (period before.delay.now) (carries before.air.now)
+    file_left mark whole passes log page =
+        (whole (file_acts file of number) log page).0
+        ∙ ap (λ (l : Given Num). key_of l worth (first_act file) (file_acts file of number) (between run after)) same_lent
+        ∙ ap (λ (w : World Num). key_of (record { field = file_field file of number (meaning before.numbering.now) s; period = period before.delay.now; carries = carries before.air.now }) worth (first_act file) (file_acts file of number) w) same_start
+        ∙ of_field (file_checked file) passes _
+
+  -- its begin is granted
+  module _
+      (code smax : ℕ) (undone : (v : ℕ) (x : Num) → of v ≡ Some x → worth x ≡ v)
+      (values : (v : ℕ) → lawful_value code smax v ≡ lawful_of (meaning before.numbering.now) of v) where
+    abbrev filing : Filing Num
+    filing = record { code = code; smax = smax; of = of; worth = worth }
+
+    pub file_granted : IsFile filing s file → (world : World Num) × (begun of_file before.rows.now before.senders.now ≡ Ok world)
+    file_granted is_file =
+        let counts = counted file in
+        let back = (write_laws (meaning before.numbering.now) filing undone values).gives_back s file is_file
+        (replicate counts.rows (blank_row number)) (replicate counts.links blank_link) (replicate counts.losses blank_loss) (replicate s.n 0) (record {
+          of_rows = omega (arith, length-replicate counts.rows (blank_row number));
+          of_links = omega (arith, length-replicate counts.links blank_link);
+          of_losses = omega (arith, length-replicate counts.losses blank_loss);
+          of_senders = omega (arith, length-replicate {A = ℕ} s.n 0);
+        }) in (
+          back.world,
+          ap (λ (f : Field Num). begun f before.rows.now before.senders.now) same_field
+          ∙ ap (λ (rows : List (Row Num)). begun (file_field file of number (meaning before.numbering.now) s) rows before.senders.now) lends.rows_are
+          ∙ ap (λ (senders : List ℕ). begun (file_field file of number (meaning before.numbering.now) s) (file_rows file of number) senders) lends.senders_are
+          ∙ back.begins,
+        )
+
+  pub key_of_file :
+      (result : Result AnswerKey RunFault) → begun_as after (run_of result) ≡ began before.rows.now before.senders.now (begun of_file before.rows.now before.senders.now) → SameLoans before after
+      → IfOk result (λ key. BeginsWhole worth (first_act file) (given meaning period carries key.run.progress after) key.mark (between key.run after))
+      → file_checked file ≡ Ok tt → (world : World Num) → begun of_file before.rows.now before.senders.now ≡ Ok world
+      → IsOkAnd result (λ key.
+      (log : List (TakenCopy Num)) (page : List ℕ)
+      → text_left worth (file_acts file of number) (standing (given meaning period carries key.run.progress after) key.mark (between key.run after) log page)
+      ≡ file_key file of number (meaning before.numbering.now) s worth (period before.delay.now) (carries before.air.now))
+  key_of_file (Ok key) is same whole passes world granted = file_left key.run is same key.mark whole passes
+  key_of_file (Err fault) is same whole passes world granted =
+      let f = is ∙ ap (began before.rows.now before.senders.now) granted in
+      let clash : ◌≡◌ {A = Result (World Num) RunFault} (Err fault) (Ok world) = ap (λ (b : Beginning Num). b.answer) f in absurd cc

@@ -51,7 +51,7 @@ module _ (file : List ℕ) where
 
       -- where its run begins
       abbrev pub file_start : World Num
-      file_start = beginning file_field file_rows (replicate (counted file).rows 0)
+      file_start = beginning file_field file_rows (replicate s.n 0)
 
       -- The key: what the acts of the file come to, from there. A file that is no field has the line of its refusal alone.
       abbrev pub file_key : (Num → ℕ) → (ℕ → ℕ → ℕ → ℕ) → Carrying → List ℕ
@@ -60,3 +60,9 @@ module _ (file : List ℕ) where
             | Ok checked ↦ key_of (record { field = file_field; period = period; carries = carries }) worth first_act file_acts file_start
             | Err fault ↦ refusal_line (refusal_in_file fault)
           ]
+
+-- what is lent are the parts of a file, as blank buffers are filled from it
+pub record LendsFile {Num : Type 0} (file : List ℕ) (s : Settings) (of : ℕ → Option Num) (number : Num) (rows : List (Row Num)) (links : List Link) (senders : List ℕ) : Type 0 where
+  pub rows_are : rows ≡ file_rows file of number
+  pub links_are : links ≡ file_links file
+  pub senders_are : senders ≡ replicate s.n 0

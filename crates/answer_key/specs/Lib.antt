@@ -1,3 +1,4 @@
+pub mod Begins
 pub mod Causes
 pub mod Files
 pub mod Keys

@@ -1,7 +1,6 @@
 // Memory for the key of a field file.
 ghost use Rattle.std.specs.Prelude.{◌≡◌, IfOk, replicate, vec_len};
 ghost use Rattle.field.specs.declared.Act.TheVariants.{Play};
-ghost use Rattle.loading.specs.Loads.{counted};
 ghost use Rattle.answer_key.specs.Files.{blank_link, blank_loss, blank_row, file_acts, file_links, file_losses, file_rows};
 
 use field::{Act, Link, Loss, Row};
@@ -61,10 +60,10 @@ impl<Number: NumberKind> Buffers<Number> {
         ensures links { IfOk result (λ buffers. buffers.links.items ≡ file_links file.now.file.now) }
         ensures losses { IfOk result (λ buffers. buffers.losses.items ≡ file_losses file.now.file.now) }
         ensures acts { IfOk result (λ buffers. buffers.acts.items ≡ file_acts file.now.file.now Number.NumberKind.of number) }
-        ensures senders { IfOk result (λ buffers. buffers.senders.items ≡ replicate (counted file.now.file.now).rows 0) }
+        ensures senders { IfOk result (λ buffers. buffers.senders.items ≡ replicate file.now.settings.n 0) }
         ensures log { IfOk result (λ buffers. vec_len buffers.log ≡ LOG_ROWS) }
     {
-        let mut buffers = Buffers::blank(heap, file.counts(), number)?;
+        let mut buffers = Buffers::blank(heap, file.counts(), file.rules().settings.n, number)?;
         // there is room for all of it
         let _counts = file.fill(
             &mut buffers.rows,
@@ -75,12 +74,12 @@ impl<Number: NumberKind> Buffers<Number> {
         Ok(buffers)
     }
 
-    fn blank(heap: Global, counts: Counts, number: Number) -> Result<Buffers<Number>, AllocError>
+    fn blank(heap: Global, counts: Counts, n: u8, number: Number) -> Result<Buffers<Number>, AllocError>
         ensures rows { IfOk result (λ buffers. buffers.rows.items ≡ replicate counts.rows (blank_row number)) }
         ensures links { IfOk result (λ buffers. buffers.links.items ≡ replicate counts.links blank_link) }
         ensures losses { IfOk result (λ buffers. buffers.losses.items ≡ replicate counts.losses blank_loss) }
         ensures acts { IfOk result (λ buffers. buffers.acts.items ≡ replicate counts.acts (Play 0)) }
-        ensures senders { IfOk result (λ buffers. buffers.senders.items ≡ replicate counts.rows 0) }
+        ensures senders { IfOk result (λ buffers. buffers.senders.items ≡ replicate n 0) }
         ensures log { IfOk result (λ buffers. vec_len buffers.log ≡ LOG_ROWS) }
     {
         let row = Row {
@@ -101,7 +100,7 @@ impl<Number: NumberKind> Buffers<Number> {
         let links = repeated(heap, LINK, counts.links)?;
         let losses = repeated(heap, LOSS, counts.losses)?;
         let acts = repeated(heap, Act::Play(0), counts.acts)?;
-        let senders = repeated(heap, 0, counts.rows)?;
+        let senders = repeated(heap, 0, usize::from(n))?;
         let log = repeated(heap, copy, LOG_ROWS)?;
         Ok(Buffers {
             rows,

@@ -5,6 +5,9 @@ ghost use Rattle.history.specs.Calls.{begun, damaging, finishing};
 ghost use Rattle.history.specs.Plays.{playing};
 ghost use Rattle.run.specs.Answers.{began, begun_as, or_back};
 ghost use Rattle.run.specs.Standing.{SameLoans, between, field_given, field_told, given};
+ghost use Rattle.loading.specs.Loads.{counted};
+ghost use Rattle.answer_key.specs.Files.{first_act};
+ghost use Rattle.answer_key.specs.Begins.{KeyOfFile};
 ghost use Rattle.answer_key.specs.Portions.{BeginsWhole, Portion, Settling, fault_ahead, run_of, standing, waiting};
 ghost use Rattle.answer_key.specs.Steps.{Damaged, PlaysOn, PrintsLines, PrintsRefusal, act_on, instants_on};
 
@@ -131,7 +134,13 @@ impl AnswerKey {
     pub fn of_file<N: Filed, D: DelayRule, A: Air>(
         file: &FileUnder<N>,
         lent: &mut Lent<N, D, A>,
-    ) -> Result<AnswerKey, RunFault> {
+    ) -> Result<AnswerKey, RunFault>
+        ensures value { begun_as lent.new (run_of result) ≡ began lent.old.rows.now lent.old.senders.now (begun (field_told N.Numbering.meaning file.now.settings (counted file.now.file.now).links lent.old) lent.old.rows.now lent.old.senders.now) }
+        ensures lent { SameLoans lent.old lent.new }
+        ensures whole { IfOk result (λ key. BeginsWhole N.Number.NumberKind.worth (first_act file.now.file.now) (given N.Numbering.meaning D.DelayRule.period A.Air.carries key.run.progress lent.new) key.mark (between key.run lent.new)) }
+        ensures settles { IfOk result (λ key. Settling (first_act file.now.file.now) (given N.Numbering.meaning D.DelayRule.period A.Air.carries key.run.progress lent.new) (between key.run lent.new)) }
+        ensures key { KeyOfFile N.Numbering.meaning D.DelayRule.period A.Air.carries N.Number.NumberKind.of N.Number.NumberKind.worth file.now.numbering file.now.file.now file.now.settings lent.old lent.new result }
+    {
         let counts = file.counts();
         let first_act = 1 + counts.rows + counts.links + counts.losses;
         AnswerKey::begin(file.rules().settings, counts.links, first_act, lent)

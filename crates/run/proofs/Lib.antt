@@ -4,7 +4,7 @@ mod Carrying
 pub mod Loans
 mod Onward
 mod Playing
-mod Returning
+pub mod Returning
 mod Sending
 mod Taking
 mod Trying

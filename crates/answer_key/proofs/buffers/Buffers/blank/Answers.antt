@@ -1,4 +1,4 @@
-use Rattle.std.proofs.Common.{◌∙◌, ap, length}
+use Rattle.std.proofs.Common.{ℕ, ap, length, replicate, ◌∙◌}
 use Rattle.std.proofs.lemmas.List.{length-replicate}
 use Rattle.answer_key.proofs.buffers.Buffers.blank.Goals as goal
 
@@ -11,5 +11,8 @@ returns-clause-links g c = c.in_ok-links.ensures
 pub returns-clause-losses : goal.returns-clause-losses
 returns-clause-losses g c = c.in_ok-losses.ensures
 
+pub returns-clause-senders : goal.returns-clause-senders
+returns-clause-senders g c = c.in_ok-senders.ensures ∙ ap (λ (k : ℕ). replicate k 0) c.from.ensures
+
 pub returns-clause-log : goal.returns-clause-log
-returns-clause-log g c = c.in_ok-log.log.ok.0 ∙ ap length c.in_ok-log.ensures ∙ length-replicate _ _
+returns-clause-log g c = c.in_ok-log.log.ok.0 ∙ ap length c.in_ok-log.ensures ∙ simp length-replicate
