@@ -1,4 +1,5 @@
 mod Acting
+mod Buffering
 mod Built
 mod Cuts
 mod Portioning

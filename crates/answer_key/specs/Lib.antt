@@ -1,4 +1,5 @@
 pub mod Causes
+pub mod Files
 pub mod Keys
 pub mod Lines
 pub mod Portions

@@ -1,10 +1,15 @@
 // Memory for the key of a field file.
-ghost use Rattle.std.specs.Prelude.{◌≡◌, IfOk, vec_len};
+ghost use Rattle.std.specs.Prelude.{◌≡◌, IfOk, replicate, vec_len};
+ghost use Rattle.field.specs.declared.Act.TheVariants.{Play};
+ghost use Rattle.loading.specs.Loads.{counted};
+ghost use Rattle.answer_key.specs.Files.{blank_link, blank_loss, blank_row, file_acts, file_links, file_losses, file_rows};
 
 use field::{Act, Link, Loss, Row};
+use filed::Filed;
 use flood::Verdict;
 use history::TakenCopy;
-use loading::Counts;
+use loading::{Counts, FileUnder};
+use numbering::NumberKind;
 use std::alloc::{AllocError, Global};
 
 /// The rows of a log in which copies seldom have to be counted before an instant is played.
@@ -22,7 +27,18 @@ const LOSS: Loss = Loss {
     instant: 0,
 };
 
-/// What a field file is filled into, and what its run and its key are lent besides.
+// So many of an item. Of what `vec!` clones, a proof knows that it is the same only for numbers.
+fn repeated<T: Copy>(heap: Global, item: T, count: usize) -> Result<Vec<T>, AllocError>
+    ensures { IfOk result (λ items. items.items ≡ replicate count item) }
+{
+    let mut items = Vec::with_capacity(heap, count)?;
+    for _made in 0..count {
+        items.push(item)?;
+    }
+    Ok(items)
+}
+
+/// The parts of a field file, and what its run and its key are lent besides.
 #[derive(Drop)]
 pub struct Buffers<Number> {
     pub rows: Vec<Row<Number>>,
@@ -33,15 +49,38 @@ pub struct Buffers<Number> {
     pub log: Vec<TakenCopy<Number>>,
 }
 
-impl<Number: Copy> Buffers<Number> {
-    /// Buffers as long as the parts of a file, with a byte for each row, and a log of `LOG_ROWS`. Until they are filled they hold a
-    /// number that is given.
-    pub fn new(heap: Global, counts: Counts, number: Number) -> Result<Buffers<Number>, AllocError>
-        ensures rows { IfOk result (λ buffers. vec_len buffers.rows ≡ counts.rows) }
-        ensures links { IfOk result (λ buffers. vec_len buffers.links ≡ counts.links) }
-        ensures losses { IfOk result (λ buffers. vec_len buffers.losses ≡ counts.losses) }
-        ensures acts { IfOk result (λ buffers. vec_len buffers.acts ≡ counts.acts) }
-        ensures senders { IfOk result (λ buffers. vec_len buffers.senders ≡ counts.rows) }
+impl<Number: NumberKind> Buffers<Number> {
+    /// The parts of a field file, a sender byte for each row, and a log of `LOG_ROWS`. Until it is filled, memory holds a number that is
+    /// given. Only memory can fail.
+    pub fn of_file<N: Filed<Number = Number>>(
+        heap: Global,
+        file: &FileUnder<N>,
+        number: Number,
+    ) -> Result<Buffers<Number>, AllocError>
+        ensures rows { IfOk result (λ buffers. buffers.rows.items ≡ file_rows file.now.file.now Number.NumberKind.of number) }
+        ensures links { IfOk result (λ buffers. buffers.links.items ≡ file_links file.now.file.now) }
+        ensures losses { IfOk result (λ buffers. buffers.losses.items ≡ file_losses file.now.file.now) }
+        ensures acts { IfOk result (λ buffers. buffers.acts.items ≡ file_acts file.now.file.now Number.NumberKind.of number) }
+        ensures senders { IfOk result (λ buffers. buffers.senders.items ≡ replicate (counted file.now.file.now).rows 0) }
+        ensures log { IfOk result (λ buffers. vec_len buffers.log ≡ LOG_ROWS) }
+    {
+        let mut buffers = Buffers::blank(heap, file.counts(), number)?;
+        // there is room for all of it
+        let _counts = file.fill(
+            &mut buffers.rows,
+            &mut buffers.links,
+            &mut buffers.losses,
+            &mut buffers.acts,
+        );
+        Ok(buffers)
+    }
+
+    fn blank(heap: Global, counts: Counts, number: Number) -> Result<Buffers<Number>, AllocError>
+        ensures rows { IfOk result (λ buffers. buffers.rows.items ≡ replicate counts.rows (blank_row number)) }
+        ensures links { IfOk result (λ buffers. buffers.links.items ≡ replicate counts.links blank_link) }
+        ensures losses { IfOk result (λ buffers. buffers.losses.items ≡ replicate counts.losses blank_loss) }
+        ensures acts { IfOk result (λ buffers. buffers.acts.items ≡ replicate counts.acts (Play 0)) }
+        ensures senders { IfOk result (λ buffers. buffers.senders.items ≡ replicate counts.rows 0) }
         ensures log { IfOk result (λ buffers. vec_len buffers.log ≡ LOG_ROWS) }
     {
         let row = Row {
@@ -58,13 +97,19 @@ impl<Number: Copy> Buffers<Number> {
             number,
             verdict: Verdict::Lost,
         };
+        let rows = repeated(heap, row, counts.rows)?;
+        let links = repeated(heap, LINK, counts.links)?;
+        let losses = repeated(heap, LOSS, counts.losses)?;
+        let acts = repeated(heap, Act::Play(0), counts.acts)?;
+        let senders = repeated(heap, 0, counts.rows)?;
+        let log = repeated(heap, copy, LOG_ROWS)?;
         Ok(Buffers {
-            rows: vec![in heap; row; counts.rows]?,
-            links: vec![in heap; LINK; counts.links]?,
-            losses: vec![in heap; LOSS; counts.losses]?,
-            acts: vec![in heap; Act::Play(0); counts.acts]?,
-            senders: vec![in heap; 0u8; counts.rows]?,
-            log: vec![in heap; copy; LOG_ROWS]?,
+            rows,
+            links,
+            losses,
+            acts,
+            senders,
+            log,
         })
     }
 }

@@ -10,7 +10,6 @@ use loading::{FieldFile, FileUnder};
 use numbering::Zero;
 use refusal::{FieldFault, Layer, RunFault};
 use run::Lent;
-use std::alloc::Global;
 use std::process::ExitCode;
 
 const PAGE: usize = 65_536;
@@ -51,21 +50,6 @@ fn tell(rt: &HostRuntime, fault: RunFault, index: usize) -> Result<ExitCode, Fai
     Ok(ExitCode::FAILURE)
 }
 
-fn filled<N: Filed>(
-    heap: Global,
-    file: &FileUnder<N>,
-    number: N::Number,
-) -> Result<Buffers<N::Number>, Failure> {
-    let mut buffers = Buffers::new(heap, file.counts(), number)?;
-    file.fill(
-        &mut buffers.rows,
-        &mut buffers.links,
-        &mut buffers.losses,
-        &mut buffers.acts,
-    )?;
-    Ok(buffers)
-}
-
 // Kept out of line: with it four times in one function the kit's clang crashes.
 #[inline(never)]
 fn play<N: Filed>(
@@ -83,7 +67,7 @@ fn play<N: Filed>(
         acts,
         mut senders,
         mut log,
-    } = filled(rt.alloc(), file, number)?;
+    } = Buffers::of_file(rt.alloc(), file, number)?;
     let delay = Seeded { seed };
     let air = key_air(seed, &losses);
     let mut lent = Lent {

@@ -37,21 +37,6 @@ fn refused(heap: Global, fault: FieldFault) -> Result<Vec<u8>, Failure> {
     Ok(text)
 }
 
-fn filled<N: Filed>(
-    heap: Global,
-    file: &FileUnder<N>,
-    number: N::Number,
-) -> Result<Buffers<N::Number>, Failure> {
-    let mut buffers = Buffers::new(heap, file.counts(), number)?;
-    file.fill(
-        &mut buffers.rows,
-        &mut buffers.links,
-        &mut buffers.losses,
-        &mut buffers.acts,
-    )?;
-    Ok(buffers)
-}
-
 // Kept out of line: with it four times in one function the kit's clang crashes.
 #[inline(never)]
 fn play<N: Filed>(
@@ -69,7 +54,7 @@ fn play<N: Filed>(
         acts,
         mut senders,
         mut log,
-    } = filled(heap, file, number)?;
+    } = Buffers::of_file(heap, file, number)?;
     log.truncate(room.log);
     let delay = Seeded { seed };
     let air = key_air(seed, &losses);
