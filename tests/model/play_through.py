@@ -1,6 +1,7 @@
+#!/usr/bin/env python3
 """What the program `play_through` is to print.
 
-    python3 tests/model/play_through.py | cmp - crates/play_through/stdout
+    tests/model/play_through.py | cmp - crates/play_through/stdout
 
 The model plays the same fields by the rules (flood.py). The calls and the words of their lines are written here once more.
 """

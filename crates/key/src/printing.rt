@@ -1,7 +1,9 @@
 // A key, printed as it is made.
 
 use crate::failure::Failure;
+use air::{Air, DelayRule};
 use answer_key::{AnswerKey, Buffers, KeyRefusal, LONGEST_LINE, Seeded, cause, key_air, print};
+use field::Act;
 use filed::Filed;
 use history::{Counts, TakenCopy};
 use loading::{FieldFile, FileUnder};
@@ -58,34 +60,46 @@ fn play<N: Filed>(
 ) -> Result<ExitCode, Failure> {
     let rules = file.rules();
     let seed = rules.settings.seed;
-    let mut buffers = Buffers::new(rt.alloc(), file.counts(), number)?;
-    file.fill(
-        &mut buffers.rows,
-        &mut buffers.links,
-        &mut buffers.losses,
-        &mut buffers.acts,
-    )?;
+    let Buffers {
+        mut rows,
+        links,
+        losses,
+        acts,
+        mut senders,
+        mut log,
+    } = Buffers::of_file(rt.alloc(), file, number)?;
     let delay = Seeded { seed };
-    let air = key_air(seed, &buffers.losses);
+    let air = key_air(seed, &losses);
     let mut lent = Lent {
         numbering: rules.numbering,
         delay: &delay,
         air: &air,
-        links: &buffers.links,
-        rows: &mut buffers.rows,
-        senders: &mut buffers.senders,
+        links: &links,
+        rows: &mut rows,
+        senders: &mut senders,
     };
-    let mut key = AnswerKey::of_file(file, &mut lent)?;
+    let key = AnswerKey::of_file(file, &mut lent)?;
+    print_portions(rt, key, &mut lent, &acts, &mut log, counts)
+}
+
+fn print_portions<N: Filed, D: DelayRule, A: Air>(
+    rt: &HostRuntime,
+    mut key: AnswerKey,
+    lent: &mut Lent<N, D, A>,
+    acts: &[Act<N::Number>],
+    log: &mut [TakenCopy<N::Number>],
+    counts: bool,
+) -> Result<ExitCode, Failure> {
     let mut page = vec![in rt.alloc(); 0u8; PAGE]?;
     for _ in 0..u64::MAX {
-        match key.portion(&mut lent, &buffers.acts, &mut buffers.log, &mut page)? {
+        match key.portion(lent, acts, log, &mut page)? {
             Some(size) => rt.write_all(page.get(..size).unwrap_or(&[]))?,
             None => break,
         }
     }
     let fault = key.fault();
     let index = key.index();
-    let all = key.finish(&lent)?;
+    let all = key.finish(lent)?;
     if counts {
         tell_counts(rt, all)?;
     }
