@@ -35,8 +35,10 @@ pub fn open_row<N: Numbering, D: DelayRule>(
     ensures sends { result ≡ is_some row.new.outgoing }
 {
     if row.timer > 1 {
-        wait(row)
-    } else if sensor == 0 {
+        wait(row);
+        return false;
+    }
+    if sensor == 0 {
         if let Some(opened) = open_base(rules, *row) {
             *row = opened;
         }
