@@ -59,11 +59,11 @@ pub fn open_rows<N: Numbering, D: DelayRule>(
     ensures rows { rows.new ≡ opened (N.Numbering.meaning rules.now.numbering.now) rules.now.settings (D.DelayRule.period delay.now) instant rows.old }
     ensures sends { result ≡ any_sends rules.now.settings.n rows.new }
 {
+    let count = rows.len().min(usize::from(rules.settings.n));
     let mut sends = false;
-    for sensor in 0..rules.settings.n {
-        let at = usize::from(sensor);
-        if at < rows.len() {
-            sends |= open_row(rules, delay, instant, sensor, &mut rows[at]);
+    for at in 0..count {
+        if open_row(rules, delay, instant, at as u8, &mut rows[at]) {
+            sends = true;
         }
     }
     sends

@@ -6,14 +6,12 @@ use air::DelayRule;
 use field::{Message, Row, Rules};
 use numbering::Numbering;
 
-// A timer above 1 falls by one; no outgoing message stays. Hardly a row has one, and then nothing but the timer is written.
+// A timer above 1 falls by one; no outgoing message stays.
 pub fn wait<Number: Copy>(row: &mut Row<Number>)
     ensures { row.new ≡ waits row.old }
 {
     row.timer = row.timer.saturating_sub(1);
-    if row.outgoing.is_some() {
-        row.outgoing = None;
-    }
+    row.outgoing = None;
 }
 
 fn waiting<Number: Copy>(mut row: Row<Number>) -> Row<Number>

@@ -1,4 +1,4 @@
-use Rattle.std.proofs.Common.{◌≡◌, ℕ, ◌*◌, ◌+◌, false, true, sym, ap, ◌∙◌, arith, take, drop, length}
+use Rattle.std.proofs.Common.{◌≡◌, ℕ, ◌*◌, ◌+◌, false, sym, ap, ◌∙◌, arith, take, drop, length}
 use Rattle.std.specs.Prelude.{◌-◌, ◌/◌}
 use Rattle.std.specs.List.{list_any}
 use Rattle.air.specs.Airs.{meets}
