@@ -1,5 +1,5 @@
 -- One item changed more. Assumes nothing.
-use Rattle.std.proofs.Common.{◌≡◌, ℕ, zero, suc, ◌+◌, ◌<◌, ◌≤◌, List, [], ◌∷◌, length, get_or, set, Some, None, sym, refl, ap, ◌∙◌, add-one, add-suc, suc-add, add-zero, zero-add, arith}
+use Rattle.std.proofs.Common.{◌≡◌, ℕ, zero, suc, ◌+◌, ◌<◌, ◌≤◌, List, [], ◌∷◌, length, get_or, set, Some, None, sym, refl, ap, ◌∙◌, add-one, add-suc, suc-add, add-zero, zero-add}
 use Rattle.std.specs.List.{slice_get}
 use Rattle.std.proofs.lemmas.Option.{slice_get-get_or, slice_get_past}
 use Rattle.flood.specs.Instants.{changed}
@@ -43,13 +43,3 @@ module _ {A : Type 0} (change : ℕ → A → A) where
   none_changed i xs out before past_end =
       let none = ap (λ (ys : List A). slice_get ys i) (sym before) ∙ slice_get_past out i past_end in
       rw (add-one i) (before ∙ past 0 i xs none)
-
-  -- past the end nothing more is changed
-  pub none_past : (place count n : ℕ) (xs : List A) → count ≤ n → (count < n → length xs ≤ count) → changed change place count xs ≡ changed change place n xs
-  unfolding changed
-  none_past place count n [] within past_end = refl
-  none_past place zero zero (x ∷ xs) within past_end = refl
-  none_past place zero (suc n) (x ∷ xs) within past_end = absurd (omega (arith, past_end (omega arith)))
-  none_past place (suc count) zero (x ∷ xs) within past_end = absurd (omega (arith, within))
-  none_past place (suc count) (suc n) (x ∷ xs) within past_end =
-      ap (λ (ys : List A). change place x ∷ ys) (none_past (suc place) count n xs (omega (arith, within)) (λ less. omega (arith, past_end (omega (arith, less)))))

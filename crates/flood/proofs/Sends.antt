@@ -1,7 +1,7 @@
 -- Whether one of the first sensors sends, with one sensor more. Assumes nothing.
-use Rattle.std.proofs.Common.{◌≡◌, ℕ, ◌+◌, ◌<◌, Bool, true, false, ◌||◌, List, [], ◌∷◌, length, set, take, is_some, sym, ap, ◌∙◌, refl}
+use Rattle.std.proofs.Common.{◌≡◌, ℕ, ◌+◌, ◌<◌, ◌≤◌, Bool, true, false, ◌||◌, List, [], ◌∷◌, length, set, take, is_some, sym, ap, ◌∙◌, refl, arith}
 use Rattle.std.specs.List.{list_any}
-use Rattle.std.proofs.lemmas.List.{take_more_set}
+use Rattle.std.proofs.lemmas.List.{take_all, take_more_set}
 use Rattle.std.proofs.lemmas.List.Folds.{list_any-append}
 use Rattle.field.specs.declared.Row.{Row}
 use Rattle.flood.specs.Instants.{any_sends}
@@ -26,11 +26,5 @@ module _ {Num : Type 0} where
       → one ≡ sends row → new ≡ set rows at row → after ≡ before || one → after ≡ any_sends (i + 1) new
   one_more i at same rows new row before one after known within this wrote told = rw (told, known, this, wrote, same) (sym (more_set rows i row (rw same at within)))
 
--- what is told once a sensor that sends has been met, and else
-pub one_sends : (before one after : Bool) → one ≡ true → after ≡ true → after ≡ before || one
-one_sends true one after sends told = rw told refl
-one_sends false one after sends told = rw (told, sends) refl
-
-pub none_sends : (before one after : Bool) → one ≡ false → after ≡ before → after ≡ before || one
-none_sends true one after silent told = rw told refl
-none_sends false one after silent told = rw (told, silent) refl
+  pub none_more : (i : ℕ) (rows : List (Row Num)) (known : Bool) → known ≡ any_sends i rows → length rows ≤ i → known ≡ any_sends (i + 1) rows
+  none_more i rows known is past = is ∙ ap (list_any sends) (take_all i rows past ∙ sym (take_all (i + 1) rows (omega arith)))

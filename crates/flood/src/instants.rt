@@ -35,10 +35,8 @@ pub fn open_row<N: Numbering, D: DelayRule>(
     ensures sends { result ≡ is_some row.new.outgoing }
 {
     if row.timer > 1 {
-        wait(row);
-        return false;
-    }
-    if sensor == 0 {
+        wait(row)
+    } else if sensor == 0 {
         if let Some(opened) = open_base(rules, *row) {
             *row = opened;
         }
@@ -59,11 +57,11 @@ pub fn open_rows<N: Numbering, D: DelayRule>(
     ensures rows { rows.new ≡ opened (N.Numbering.meaning rules.now.numbering.now) rules.now.settings (D.DelayRule.period delay.now) instant rows.old }
     ensures sends { result ≡ any_sends rules.now.settings.n rows.new }
 {
-    let count = rows.len().min(usize::from(rules.settings.n));
     let mut sends = false;
-    for at in 0..count {
-        if open_row(rules, delay, instant, at as u8, &mut rows[at]) {
-            sends = true;
+    for sensor in 0..rules.settings.n {
+        let at = usize::from(sensor);
+        if at < rows.len() {
+            sends |= open_row(rules, delay, instant, sensor, &mut rows[at]);
         }
     }
     sends
