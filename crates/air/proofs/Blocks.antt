@@ -35,11 +35,20 @@ module _ {A : Type 0} (p : A → Bool) (xs : List A) where
       let rest : among from (length xs) ≡ drop from xs = take_all (length xs - from) (drop from xs) (omega (arith, length-drop from xs)) in
       in_two xs from ∙ rw (none, rest) refl
 
--- into a receiver that none of the links goes into, no other sensor sends
-pub not_reached : (link : Link) (senders : List ℕ) (links : List Link) → list_any (λ other. other.to == link.to) links ≡ false → drowned link links senders ≡ false
-not_reached link senders [] none = refl
-not_reached link senders (other ∷ links) none = by (other.to == link.to) refl (λ rest. not_reached link senders links rest)
+-- where no link can go into the receiver, no other sensor sends into it
+pub none_reach :
+    (link : Link) (senders : List ℕ) (links : List Link) → list_any (λ other. other.from == 255 || (other.to == link.to || other.label == 255)) links ≡ false
+    → drowned link links senders ≡ false
+none_reach link senders [] none = refl
+none_reach link senders (other ∷ links) none = by (other.from == 255) (other.to == link.to) (other.label == 255) refl refl refl (λ rest. none_reach link senders links rest)
   where
-    by : (b : Bool) → other.to == link.to ≡ b → (list_any (λ (o : Link). o.to == link.to) links ≡ false → drowned link links senders ≡ false) → drowned link (other ∷ links) senders ≡ false
-    by true e later = let f = rw e at none in absurd cc
-    by false e later = rw e (later (let f = rw e at none in f))
+    Rest : Bool
+    Rest = list_any (λ (o : Link). o.from == 255 || (o.to == link.to || o.label == 255)) links
+
+    by :
+        (a b c : Bool) → other.from == 255 ≡ a → other.to == link.to ≡ b → other.label == 255 ≡ c → (Rest ≡ false → drowned link links senders ≡ false)
+        → drowned link (other ∷ links) senders ≡ false
+    by true b c ea eb ec later = let f = rw ea at none in absurd cc
+    by false true c ea eb ec later = let f = rw (ea, eb) at none in absurd cc
+    by false false true ea eb ec later = let f = rw (ea, eb, ec) at none in absurd cc
+    by false false false ea eb ec later = rw eb (later (let f = rw (ea, eb, ec) at none in f))

@@ -1,5 +1,5 @@
 // Copies that other senders drown.
-ghost use Rattle.std.specs.Prelude.{◌≡◌, ◌==◌};
+ghost use Rattle.std.specs.Prelude.{◌≡◌, ◌||◌, ◌==◌};
 ghost use Rattle.std.specs.List.{list_any};
 ghost use Rattle.air.specs.Airs.{drowned, Comes, collisions_carry, rivals};
 
@@ -16,16 +16,17 @@ fn rivals(link: Link, senders: &[u8], other: Link) -> bool
     other.from != link.from && sends(senders, other.from)
 }
 
-// Does one of these links go into this receiver?
-fn reached(receiver: u8, links: &[Link]) -> bool
-    ensures { result ≡ list_any (λ other. other.to == receiver) links.now }
+// May one of these links go into this receiver? Sender and label are compared too, with a number that neither has in a
+// field within its limits: so the bytes are compared as they lie in memory, many at once.
+fn may_reach(receiver: u8, links: &[Link]) -> bool
+    ensures { result ≡ list_any (λ other. other.from == 255 || (other.to == receiver || other.label == 255)) links.now }
 {
+    let mut may = false;
     for at in 0..links.len() {
-        if links[at].to == receiver {
-            return true;
-        }
+        let other = links[at];
+        may |= (other.from == 255) | (other.to == receiver) | (other.label == 255);
     }
-    false
+    may
 }
 
 // Does another sensor send over one of these links into the same receiver?
@@ -48,7 +49,7 @@ fn drowned(link: Link, links: &[Link], senders: &[u8]) -> bool
 {
     for block in 0..links.len() / BLOCK {
         let part = &links[block * BLOCK..block * BLOCK + BLOCK];
-        if reached(link.to, part) && drowned_among(link, part, senders) {
+        if may_reach(link.to, part) && drowned_among(link, part, senders) {
             return true;
         }
     }

@@ -2,8 +2,8 @@ use Rattle.std.proofs.Common.{◌≡◌, ℕ, ◌*◌, ◌+◌, false, sym, ap, 
 use Rattle.std.specs.Prelude.{◌-◌, ◌/◌}
 use Rattle.std.specs.List.{list_any}
 use Rattle.air.specs.Airs.{meets}
-use Rattle.air.proofs.Blocks.{none_up_to, not_reached, one_among, rest_decides}
-use Rattle.air.proofs.collisions.drowned.Goals.{else-reached-via-then-reached+else-drowned_among, else-reached-via-else-reached}
+use Rattle.air.proofs.Blocks.{none_up_to, none_reach, one_among, rest_decides}
+use Rattle.air.proofs.collisions.drowned.Goals.{else-may_reach-via-then-may_reach+else-drowned_among, else-may_reach-via-else-may_reach}
 use Rattle.air.proofs.collisions.drowned.Goals as goal
 
 pub returns-then-drowned_among : goal.returns-then-drowned_among
@@ -18,9 +18,9 @@ loop-block-preserved c =
     let next = (c.loop-block.block + 1) * 8 in
     let part : take (next - from) (drop from links) ≡ take (from + 8 - from) (drop from links) = ap (λ (k : ℕ). take k (drop from links)) (omega arith) in
     let more = λ (none : list_any test (take (from + 8 - from) (drop from links)) ≡ false). none_up_to test links from next (omega arith) c.loop-block.invariant (ap (list_any test) part ∙ none) in
-    elim c.else-reached.branch [
-      | else-reached-via-then-reached+else-drowned_among w ↦ more (sym w.drowned_among.ensures ∙ w.if-drowned_among.false)
-      | else-reached-via-else-reached w ↦ more (not_reached c.args.link c.args.senders.now (take (from + 8 - from) (drop from links)) (sym c.reached.ensures ∙ w.if-reached.false))
+    elim c.else-may_reach.branch [
+      | else-may_reach-via-then-may_reach+else-drowned_among w ↦ more (sym w.drowned_among.ensures ∙ w.if-drowned_among.false)
+      | else-may_reach-via-else-may_reach w ↦ more (none_reach c.args.link c.args.senders.now (take (from + 8 - from) (drop from links)) (sym c.may_reach.ensures ∙ w.if-may_reach.false))
     ]
 
 pub returns : goal.returns
