@@ -7,7 +7,7 @@ use field::{Row, Rules};
 use flood::open_row;
 use numbering::Numbering;
 
-// Most sensors wait, and then the timer alone is written.
+// Most sensors wait, and most others have marked nothing: then the timer alone is written.
 fn open_silent_row<N: Numbering, D: DelayRule>(
     rules: &Rules<N>,
     delay: &D,
@@ -21,6 +21,10 @@ fn open_silent_row<N: Numbering, D: DelayRule>(
 {
     if row.timer > 1 {
         row.timer -= 1;
+        return false;
+    }
+    if sensor != 0 && row.mark.is_none() {
+        row.timer = u16::from(delay.period(rules.settings.tmax, instant, sensor));
         return false;
     }
     open_row(rules, delay, instant, sensor, row)
