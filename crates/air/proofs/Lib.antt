@@ -1,1 +1,2 @@
+mod Blocks
 pub mod Somewhere

@@ -1,3 +1,3 @@
-mod Changes
+pub mod Changes
 mod Onward
-mod Sends
+pub mod Sends

@@ -2,6 +2,7 @@ pub mod Began
 mod Begins
 mod Carrying
 pub mod Loans
+mod NoneSends
 mod Onward
 mod Playing
 pub mod Returning

@@ -14,7 +14,7 @@ use Rattle.history.proofs.Places.{at_changed}
 
 module _ {A : Type 0} (change : ℕ → A → A) where
   -- what lies past the first n stays, and where nothing is, nothing comes
-  at_rest : (place n k : ℕ) (xs : List A) → n ≤ k → slice_get (changed change place n xs) k ≡ slice_get xs k
+  pub at_rest : (place n k : ℕ) (xs : List A) → n ≤ k → slice_get (changed change place n xs) k ≡ slice_get xs k
   unfolding changed
   at_rest place n k [] h = refl
   at_rest place zero k (x ∷ xs) h = refl

@@ -25,7 +25,7 @@ use Rattle.run.specs.Plays.{CarriedAll, ClosedAll, InstantPlayed, all_copies, lo
 use Rattle.run.proofs.Carrying.{logged_none}
 
 -- where the first of a list pass no test, none of them does
-none_first : {A : Type 0} (test : A → Bool) (n : ℕ) (xs : List A) → list_any test (take n xs) ≡ false → (k : ℕ) (x : A) → k < n → slice_get xs k ≡ Some x → test x ≡ false
+pub none_first : {A : Type 0} (test : A → Bool) (n : ℕ) (xs : List A) → list_any test (take n xs) ≡ false → (k : ℕ) (x : A) → k < n → slice_get xs k ≡ Some x → test x ≡ false
 none_first test zero xs none k x h there = absurd (omega arith)
 none_first test (suc n) [] none k x h there = absurd cc
 none_first test (suc n) (y ∷ ys) none zero x h there = let same : y ≡ x = cc in rw (sym same) (first (test y) _ none)
@@ -40,6 +40,10 @@ none_first test (suc n) (y ∷ ys) none (suc k) x h there = none_first test n ys
     rest false b e = e
 
 module _ {Num : Type 0} where
+  pub no_message : (o : Option (Message Num)) → is_some o ≡ false → o ≡ None
+  no_message None e = refl
+  no_message (Some m) e = absurd cc
+
   -- behind the copies comes the close
   pub closed_all :
       (given lent : Lent Num) → given ≡ lent → (used : ℕ) (begun start : World Num) → begun ≡ start → (world after : World Num) → after ≡ world_closed given.field world
@@ -108,10 +112,6 @@ module _ {Num : Type 0} (lent : Lent Num) (world : World Num) where
       where
         over : Option ℕ → World Num
         over position = record world { rows = rows_opened lent world; instant = suc world.instant; position = position; counts = counted_open false world.counts }
-
-        no_message : (o : Option (Message Num)) → is_some o ≡ false → o ≡ None
-        no_message None e = refl
-        no_message (Some m) e = absurd cc
 
         base :
             (o : Option (Row Num)) → slice_get (rows_opened lent world) 0 ≡ o

@@ -1,5 +1,5 @@
 // An instant, call by call.
-ghost use Rattle.std.specs.Prelude.{◌≡◌, ◌+◌, ◌*◌, ◌≤◌, ◌<◌, is_some, length, IfSome, None, Some};
+ghost use Rattle.std.specs.Prelude.{◌≡◌, ◌+◌, ◌*◌, ◌≤◌, ◌<◌, false, is_some, length, IfSome, None, Some};
 ghost use Rattle.flood.specs.Copies.{next_copy, outgoing_of};
 ghost use Rattle.flood.specs.Instants.{any_sends};
 ghost use Rattle.history.specs.Calls.{carrying, closing, comes_through, copy_over, counted_copy, next_taken, opening, world_closed, world_opened};
@@ -11,6 +11,7 @@ ghost use Rattle.run.specs.Answers.{answered, closed_as, moved, onward, opened_a
 ghost use Rattle.run.specs.Standing.{SameLoans, between, counts_of, field_given, given, stands, within};
 
 use crate::lending::{Lent, front, put};
+use crate::silent::open_silent_rows;
 use crate::states::{Declined, Idle, Instant, Progress};
 use air::{Air, DelayRule};
 use field::{Link, Row, Stage};
@@ -85,6 +86,34 @@ impl Progress {
         let rules = self.rules(lent);
         let rows = &mut *lent.rows;
         let sends = open_rows(&rules, lent.delay, self.instant, rows);
+        if base_sends(rows) {
+            self.floods += 1;
+        }
+        sends
+    }
+}
+
+impl Progress {
+    // The same where no row has something to send yet.
+    #[tactic(auto, unfolding(history::specs::Calls::world_opened))]
+    pub fn open_silent_rows<N: Numbering, D: DelayRule, A: Air>(
+        &mut self,
+        lent: &mut Lent<N, D, A>,
+    ) -> bool
+        requires instant { self.old.instant < 4294967295 }
+        requires silent { any_sends self.old.settings.n lent.old.rows.now ≡ false }
+        ensures value { let world = stands self.old None lent.old in stands self.new (Some 0) lent.new ≡ record (world_opened (given N.Numbering.meaning D.DelayRule.period A.Air.carries self.old lent.old) world) { senders = lent.old.senders.now } }
+        ensures sends { result ≡ any_sends self.old.settings.n lent.new.rows.now }
+        ensures copies { self.new.copies ≡ self.old.copies }
+        ensures settings { self.new.settings ≡ self.old.settings }
+        ensures links { self.new.count ≡ self.old.count }
+        ensures instant { self.new.instant ≡ self.old.instant + 1 }
+        ensures lent { SameLoans lent.old lent.new }
+    {
+        self.instant += 1;
+        let rules = self.rules(lent);
+        let rows = &mut *lent.rows;
+        let sends = open_silent_rows(&rules, lent.delay, self.instant, rows);
         if base_sends(rows) {
             self.floods += 1;
         }

@@ -7,6 +7,7 @@ mod checks;
 mod instants;
 mod lending;
 mod play;
+mod silent;
 mod states;
 mod write;
 

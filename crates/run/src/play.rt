@@ -229,7 +229,7 @@ impl Progress {
         ensures instant { self.new.instant ≡ self.old.instant + 1 }
         ensures lent { SameLoans lent.old lent.new }
     {
-        if !self.open_rows(lent) {
+        if !self.open_silent_rows(lent) {
             return used;
         }
         self.pass_copies(lent, log, used)
