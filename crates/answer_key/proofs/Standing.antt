@@ -176,9 +176,9 @@ module _
         }) in (
           back.world,
           ap (λ (f : Field Num). begun f before.rows.now before.senders.now) same_field
-          ∙ ap (λ (rows : List (Row Num)). begun (file_field file of number (meaning before.numbering.now) s) rows before.senders.now) lends.rows_are
-          ∙ ap (λ (senders : List ℕ). begun (file_field file of number (meaning before.numbering.now) s) (file_rows file of number) senders) lends.senders_are
-          ∙ back.begins,
+              ∙ ap (λ (rows : List (Row Num)). begun (file_field file of number (meaning before.numbering.now) s) rows before.senders.now) lends.rows_are
+              ∙ ap (λ (senders : List ℕ). begun (file_field file of number (meaning before.numbering.now) s) (file_rows file of number) senders) lends.senders_are
+              ∙ back.begins,
         )
 
   pub key_of_file :

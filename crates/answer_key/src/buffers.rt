@@ -74,7 +74,12 @@ impl<Number: NumberKind> Buffers<Number> {
         Ok(buffers)
     }
 
-    fn blank(heap: Global, counts: Counts, n: u8, number: Number) -> Result<Buffers<Number>, AllocError>
+    fn blank(
+        heap: Global,
+        counts: Counts,
+        n: u8,
+        number: Number,
+    ) -> Result<Buffers<Number>, AllocError>
         ensures rows { IfOk result (λ buffers. buffers.rows.items ≡ replicate counts.rows (blank_row number)) }
         ensures links { IfOk result (λ buffers. buffers.links.items ≡ replicate counts.links blank_link) }
         ensures losses { IfOk result (λ buffers. buffers.losses.items ≡ replicate counts.losses blank_loss) }

@@ -20,7 +20,7 @@ returns-clause-rows g c =
     c.fill-counts.ensures.value
     ∙ has_room (counted file) _ _ _ _ _ _ _ _ (c.deref_mut.ensures.value ∙ rows) (c.deref_mut-2.ensures.value ∙ links) (c.deref_mut-3.ensures.value ∙ losses) (c.deref_mut-4.ensures.value ∙ acts) in
     vector_filled c.fill-counts.result (counted file) granted (rows_filled g.Number.NumberKind.of (row_records file)) c.fill-counts.new.rows c.deref_mut.result.now b.rows.items _ b.rows.len
-        c.fill-counts.ensures.rows c.fill-counts.auto.rows c.deref_mut.ensures.value rows (sym b.rows.ok.0)
+    c.fill-counts.ensures.rows c.fill-counts.auto.rows c.deref_mut.ensures.value rows (sym b.rows.ok.0)
 
 pub returns-clause-links : goal.returns-clause-links
 returns-clause-links g c =
@@ -36,7 +36,7 @@ returns-clause-links g c =
     c.fill-counts.ensures.value
     ∙ has_room (counted file) _ _ _ _ _ _ _ _ (c.deref_mut.ensures.value ∙ rows) (c.deref_mut-2.ensures.value ∙ links) (c.deref_mut-3.ensures.value ∙ losses) (c.deref_mut-4.ensures.value ∙ acts) in
     vector_filled c.fill-counts.result (counted file) granted (links_filled (link_records file)) c.fill-counts.new.links c.deref_mut-2.result.now b.links.items _ b.links.len
-        c.fill-counts.ensures.links c.fill-counts.auto.links c.deref_mut-2.ensures.value links (sym b.links.ok.0)
+    c.fill-counts.ensures.links c.fill-counts.auto.links c.deref_mut-2.ensures.value links (sym b.links.ok.0)
 
 pub returns-clause-losses : goal.returns-clause-losses
 returns-clause-losses g c =
@@ -52,7 +52,7 @@ returns-clause-losses g c =
     c.fill-counts.ensures.value
     ∙ has_room (counted file) _ _ _ _ _ _ _ _ (c.deref_mut.ensures.value ∙ rows) (c.deref_mut-2.ensures.value ∙ links) (c.deref_mut-3.ensures.value ∙ losses) (c.deref_mut-4.ensures.value ∙ acts) in
     vector_filled c.fill-counts.result (counted file) granted (losses_filled (loss_records file)) c.fill-counts.new.losses c.deref_mut-3.result.now b.losses.items _ b.losses.len
-        c.fill-counts.ensures.losses c.fill-counts.auto.losses c.deref_mut-3.ensures.value losses (sym b.losses.ok.0)
+    c.fill-counts.ensures.losses c.fill-counts.auto.losses c.deref_mut-3.ensures.value losses (sym b.losses.ok.0)
 
 pub returns-clause-acts : goal.returns-clause-acts
 returns-clause-acts g c =
@@ -68,4 +68,4 @@ returns-clause-acts g c =
     c.fill-counts.ensures.value
     ∙ has_room (counted file) _ _ _ _ _ _ _ _ (c.deref_mut.ensures.value ∙ rows) (c.deref_mut-2.ensures.value ∙ links) (c.deref_mut-3.ensures.value ∙ losses) (c.deref_mut-4.ensures.value ∙ acts) in
     vector_filled c.fill-counts.result (counted file) granted (acts_filled g.Number.NumberKind.of (act_records file)) c.fill-counts.new.acts c.deref_mut-4.result.now b.acts.items _ b.acts.len
-        c.fill-counts.ensures.acts c.fill-counts.auto.acts c.deref_mut-4.ensures.value acts (sym b.acts.ok.0)
+    c.fill-counts.ensures.acts c.fill-counts.auto.acts c.deref_mut-4.ensures.value acts (sym b.acts.ok.0)
