@@ -1,6 +1,6 @@
 -- That each step of a key is a portion of it. Assumes nothing.
 use Rattle.std.proofs.Common.{◌≡◌, ℕ, zero, suc, ◌+◌, ◌*◌, ◌<◌, ◌≤◌, min, ◌⊎◌, inl, inr, Bool, true, false, cond, List, [], ◌∷◌, ◌++◌, get_or, length, take, drop, Some, None, Ok, Err, Option, Result, sym, refl, ap, ◌∙◌, subst, arith, append_assoc, leb, leb-true, leb-false}
-use Rattle.std.proofs.lemmas.List.{append-nil, drop_all, drop-take, length-append, take-append-drop}
+use Rattle.std.proofs.lemmas.List.{append-nil, drop_all, drop-take, length-append, length-take, take-append-drop}
 use Rattle.std.proofs.lemmas.List.Sums.{sum_by-cons}
 use Rattle.std.proofs.Math.Nat.{sub-zero}
 use Rattle.std.proofs.Math.Seq.{take-append_seam}
@@ -209,17 +209,28 @@ module _
     ended : PlayEnds lent (min left 65536) (length log) world p
     ended = (play_laws lent).ends (min left 65536) (length log) world
 
+    -- an instant has at most one copy over each link
+    short_log : lent.field.count ≤ 1024 → p.instants ≡ 0 → p.ending ≡ LogShort → length log < 1024
+    unfolding copies_in
+    short_log few none short =
+        let why = subst (EndsAs lent (min left 65536 - p.instants) (length log - length copies) p.world) short ended.ends in
+        let nothing : length copies ≡ 0 = ap (λ (events : List (Event Num)). length (copies_in events)) (none_passed lent (min left 65536) (length log) world none).0 in
+        let links = (play_laws lent).few_copies p.world in
+        let told = length-take lent.field.count lent.field.links in
+        omega (arith, why.2, nothing, links, told)
+
     pub play_short :
-        (given : Lent Num) (new : Bookmark) (after : World Num) (logs : List (TakenCopy Num)) (fault : RunFault) → given ≡ lent
+        (given : Lent Num) (new : Bookmark) (after : World Num) (logs : List (TakenCopy Num)) (fault : RunFault) → given ≡ lent → lent.field.count ≤ 1024
         → NotPlayed p mark new world after log logs fault → Short worth acts at (standing given new after logs page) fault
     unfolding copies_in
-    play_short given new after logs fault same done =
+    play_short given new after logs fault same few done =
         let nothing = none_passed lent (min left 65536) (length log) world done.none in
         let short = short_at_once lent (min left 65536) (length log) world done.none done.short in
         record {
           same = rw (same, done.mark_is, done.stands, nothing.1, done.logs_copies, nothing.0) refl;
           fault_is = done.fault_is;
           short = rw (none, going) short;
+          small = inl (short_log few done.none done.short);
         }
 
     module _ (after : World Num) (logs : List (TakenCopy Num)) (between : after.position ≡ None) (stands : after ≡ p.world) (logs_copies : logs ≡ copies ++ drop (length copies) log) where

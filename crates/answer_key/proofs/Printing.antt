@@ -114,6 +114,7 @@ module _
     same = rw (same, done.mark_is, done.unwritten.page_is) refl;
     fault_is = done.unwritten.fault_is;
     short = first_line worth (waiting mark log) (length page) some done.unwritten.too_long at refl acts;
+    small = inr done.narrow;
   }
 
   module _ (ending : RunFault) (given : Lent Num) (new : Bookmark) (pages : List ℕ) (same : given ≡ lent) (none : waiting mark log ≡ []) (ahead : mark.ahead ≡ Refusal ending) where
@@ -135,6 +136,7 @@ module _
       same = rw (same, done.mark_is, done.unwritten.page_is) refl;
       fault_is = done.unwritten.fault_is;
       short = rw (none, ahead) done.unwritten.too_long;
+      small = inr done.narrow;
     }
 
   pub nothing_portion : (fault : RunFault) → waiting mark log ≡ [] → mark.ahead ≡ Refused fault → Whole worth acts at at

@@ -119,11 +119,12 @@ module _ {Num : Type 0} (worth : Num → ℕ) (acts : List (Act Num)) where
   line_short [] at = refusal_short at.mark.ahead at
   line_short (copy ∷ copies) at = length at.page < length (copy_line worth copy)
 
-  -- 15, and nothing is altered
+  -- 15, and nothing is altered. A log of 1,024 rows and a page of 43 bytes always have room.
   pub record Short (old new : Standing Num) (fault : RunFault) : Type 0 where
     pub same : new ≡ old
     pub fault_is : fault ≡ NoRoom
     pub short : line_short (waiting old.mark old.log) old
+    pub small : (length old.log < 1024) ⊎ (length old.page < 43)
 
   abbrev pub Portion : Standing Num → Standing Num → Result (Option ℕ) RunFault → Type 0
   Portion old new (Ok (Some size)) = Printed old new size

@@ -54,6 +54,8 @@ module _ {Num : Type 0} (worth : Num → ℕ) where
   pub record LinesUnprinted (old new : Bookmark) (log : List (TakenCopy Num)) (page pages : List ℕ) (fault : RunFault) : Type 0 where
     pub mark_is : new ≡ old
     pub unwritten : Unwritten (copy_lines worth (take 1 (waiting old log))) page pages fault
+    -- which a page of 43 bytes has room for
+    pub narrow : length page < 43
 
   abbrev pub PrintsLines : Bookmark → Bookmark → List (TakenCopy Num) → List ℕ → List ℕ → Result ℕ RunFault → Type 0
   PrintsLines old new log page pages (Ok size) = LinesPrinted old new log page pages size
@@ -67,6 +69,7 @@ pub record RefusalPrinted (ending : RunFault) (old new : Bookmark) (page pages :
 pub record RefusalUnprinted (ending : RunFault) (old new : Bookmark) (page pages : List ℕ) (fault : RunFault) : Type 0 where
   pub mark_is : new ≡ old
   pub unwritten : Unwritten (refusal_line (refusal_at ending old.index)) page pages fault
+  pub narrow : length page < 43
 
 abbrev pub PrintsRefusal : RunFault → Bookmark → Bookmark → List ℕ → List ℕ → Result ℕ RunFault → Type 0
 PrintsRefusal ending old new page pages (Ok size) = RefusalPrinted ending old new page pages size

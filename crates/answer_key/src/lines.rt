@@ -99,8 +99,8 @@ fn put_key<K: NumberKind>(pen: &mut Pen, copies: &[TakenCopy<K>], refusal: Optio
 /// A copy's line is `instant sender receiver hop number verdict`, with one space between two words and a line feed behind the last; its
 /// verdict is `lost`, `refused`, `accepted` or `forwards`. The refusal's line is `refusal number index`. Numbers are in decimal.
 ///
-/// It declines with `NoRoom` where the text does not fit, and the page stays as it was. The lines of copies are at most `LONGEST_LINE`
-/// bytes each (`short`), and whoever reads the text has the copies and the refusal back (`laws`).
+/// It declines with `NoRoom` where the text does not fit, and the page stays as it was. No line has more than `LONGEST_LINE` bytes
+/// (`short`, `last_short`), and whoever reads the text has the copies and the refusal back (`laws`).
 pub fn print<K: NumberKind>(
     copies: &[TakenCopy<K>],
     refusal: Option<KeyRefusal>,
@@ -109,6 +109,7 @@ pub fn print<K: NumberKind>(
     ensures value { result ≡ ok_or (fitting (key_text K.NumberKind.worth copies.now refusal) page.old) NoRoom }
     ensures page { page.new ≡ written (key_text K.NumberKind.worth copies.now refusal) page.old }
     ensures short { length (copy_lines K.NumberKind.worth copies.now) ≤ LONGEST_LINE * length copies.now }
+    ensures last_short { length (last_line refusal) ≤ LONGEST_LINE }
     ensures laws { PrintLaws K.NumberKind.among K.NumberKind.of K.NumberKind.worth }
 {
     // Where even the longest lines have room, the text need not be measured before it is written.

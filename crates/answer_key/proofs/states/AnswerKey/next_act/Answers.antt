@@ -21,7 +21,7 @@ returns-in_err-play_on-in-Some-Play-clause-value g c page =
     let gives : c.from_residual.result ≡ Err c.in_err-play_on-in-Some-Play.field-0.0 = search rules in
     let there = act_there c.args.acts.now key.mark.act c.in-Some-Play.field-0.now (Plays budget) found.3.0 found.1 c.in-Some-Play.field-0-is in
     let after = given g.N.Numbering.meaning g.D.DelayRule.period g.A.Air.carries new.self.run.progress new.lent in
-    let short = play_short inputs g.N.Number.NumberKind.worth c.args.acts.now key.mark world c.args.log.now page c.requires.acts c.requires.none refl budget there after new.self.mark (between new.self.run new.lent) new.log c.in_err-play_on-in-Some-Play.field-0.0 same done in
+    let short = play_short inputs g.N.Number.NumberKind.worth c.args.acts.now key.mark world c.args.log.now page c.requires.acts c.requires.none refl budget there after new.self.mark (between new.self.run new.lent) new.log c.in_err-play_on-in-Some-Play.field-0.0 same key.run.progress.few_links done in
     rw gives short
 
 pub returns-in-None-clause-value : goal.returns-in-None-clause-value
