@@ -26,7 +26,11 @@ use run::{Declined, Idle, Lent};
 pub const PORTION: u32 = 65_536;
 
 impl AnswerKey {
-    /// Begins a key...
+    /// Begins a key whose acts are still to come: a run of a field with these settings, of which the first `count` links are told, as
+    /// `Idle::begin` begins it (`value`). The index is that of the record of the first act, counted from 0: a refusal tells it.
+    ///
+    /// From there on the whole key is left, whatever acts, log and page are lent (`whole`), and the floods of each key settle: those whose
+    /// copies it has, once its acts are done (`settles`). It declines as `Idle::begin` does, and nothing that was lent is altered.
     pub fn begin<N: Numbering, D: DelayRule, A: Air>(
         settings: Settings,
         count: usize,
@@ -50,7 +54,35 @@ impl AnswerKey {
         Ok(AnswerKey { run, mark })
     }
 
-    /// Portion...
+    /// Begins the key of a field file, whose rows and links stand in front of what is lent: with the file's settings, with all its links
+    /// told, and with the record behind those of rows, links and losses as the first act's. It is `begin` in all else.
+    ///
+    /// Where the parts of the file are lent as `Buffers::of_file` makes them, with the file's own numbering, it is granted, and what is left
+    /// is the key of the file, which is one definition over its bytes (`key`, `file_key`).
+    pub fn of_file<N: Filed, D: DelayRule, A: Air>(
+        file: &FileUnder<N>,
+        lent: &mut Lent<N, D, A>,
+    ) -> Result<AnswerKey, RunFault>
+        ensures value { begun_as lent.new (run_of result) ≡ began lent.old.rows.now lent.old.senders.now (begun (field_told N.Numbering.meaning file.now.settings (counted file.now.file.now).links lent.old) lent.old.rows.now lent.old.senders.now) }
+        ensures lent { SameLoans lent.old lent.new }
+        ensures whole { IfOk result (λ key. BeginsWhole N.Number.NumberKind.worth (first_act file.now.file.now) (given N.Numbering.meaning D.DelayRule.period A.Air.carries key.run.progress lent.new) key.mark (between key.run lent.new)) }
+        ensures settles { IfOk result (λ key. Settling (first_act file.now.file.now) (given N.Numbering.meaning D.DelayRule.period A.Air.carries key.run.progress lent.new) (between key.run lent.new)) }
+        ensures key { KeyOfFile N.Numbering.meaning D.DelayRule.period A.Air.carries N.Number.NumberKind.of N.Number.NumberKind.worth file.now.numbering file.now.file.now file.now.settings lent.old lent.new result }
+    {
+        let counts = file.counts();
+        let first_act = 1 + counts.rows + counts.links + counts.losses;
+        AnswerKey::begin(file.rules().settings, counts.links, first_act, lent)
+    }
+
+    /// Goes on with the key, and answers how many bytes of it stand at the front of the page then, which may be none; or nothing is left
+    /// of it, and nothing changes. It prints lines that wait, as many as the page surely has room for, or one if it fits. Where none
+    /// waits, it does the next act, of a play at most `PORTION` instants, whose copies stand in the log until they are printed.
+    ///
+    /// The bytes and what is left are together what was left before, and each portion prints some of it or is a step towards the end of
+    /// the acts: so the portions, one behind the other, are the key. Bytes behind them stay. Its definition is `Portion`.
+    ///
+    /// It declines with 15, and nothing is altered, where the page has no room for the next line, or the log none for the copies of the
+    /// next instant. A log of 1,024 rows and a page of 43 bytes always have room.
     pub fn portion<N: Numbering, D: DelayRule, A: Air>(
         &mut self,
         lent: &mut Lent<N, D, A>,
@@ -92,7 +124,7 @@ impl AnswerKey {
         self.mark.index
     }
 
-    /// Ends the key...
+    /// Ends the key, and answers what its run has counted, as `Idle::finish` does. Where it declines, the key is handed back.
     pub fn finish<N: Numbering, D, A>(
         self,
         lent: &Lent<N, D, A>,
@@ -127,23 +159,6 @@ impl AnswerKey {
             None => return Ok(None),
         }
         Ok(Some(0))
-    }
-
-    /// Begins the key of a field file, whose rows and links stand in front of what is lent: with the file's settings, with all its links
-    /// told, and with the record behind those of rows, links and losses as the first act's. It is `begin` in all else.
-    pub fn of_file<N: Filed, D: DelayRule, A: Air>(
-        file: &FileUnder<N>,
-        lent: &mut Lent<N, D, A>,
-    ) -> Result<AnswerKey, RunFault>
-        ensures value { begun_as lent.new (run_of result) ≡ began lent.old.rows.now lent.old.senders.now (begun (field_told N.Numbering.meaning file.now.settings (counted file.now.file.now).links lent.old) lent.old.rows.now lent.old.senders.now) }
-        ensures lent { SameLoans lent.old lent.new }
-        ensures whole { IfOk result (λ key. BeginsWhole N.Number.NumberKind.worth (first_act file.now.file.now) (given N.Numbering.meaning D.DelayRule.period A.Air.carries key.run.progress lent.new) key.mark (between key.run lent.new)) }
-        ensures settles { IfOk result (λ key. Settling (first_act file.now.file.now) (given N.Numbering.meaning D.DelayRule.period A.Air.carries key.run.progress lent.new) (between key.run lent.new)) }
-        ensures key { KeyOfFile N.Numbering.meaning D.DelayRule.period A.Air.carries N.Number.NumberKind.of N.Number.NumberKind.worth file.now.numbering file.now.file.now file.now.settings lent.old lent.new result }
-    {
-        let counts = file.counts();
-        let first_act = 1 + counts.rows + counts.links + counts.losses;
-        AnswerKey::begin(file.rules().settings, counts.links, first_act, lent)
     }
 
     // The damage that is the next act.
