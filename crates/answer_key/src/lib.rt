@@ -3,6 +3,7 @@
 
 mod buffers;
 mod causes;
+mod failure;
 mod key;
 mod line;
 mod lines;
@@ -13,6 +14,7 @@ mod tests;
 
 pub use buffers::{Buffers, LOG_ROWS};
 pub use causes::cause;
+pub use failure::Failure;
 pub use key::PORTION;
 pub use lines::{KeyRefusal, LONGEST_LINE, print};
 pub use seeds::{Seeded, key_air};

@@ -1,13 +1,12 @@
 // The program `key`: the answer key of a field file.
 #![tactic(auto)]
 
-mod failure;
 mod printing;
 mod words;
 
-use crate::failure::Failure;
 use crate::printing::print_key;
 use crate::words::{Request, request_in};
+use answer_key::Failure;
 use std::fs::File;
 use std::io::Read;
 use std::process::ExitCode;

@@ -1,8 +1,9 @@
 // A key, printed as it is made.
 
-use crate::failure::Failure;
 use air::{Air, DelayRule};
-use answer_key::{AnswerKey, Buffers, KeyRefusal, LONGEST_LINE, Seeded, cause, key_air, print};
+use answer_key::{
+    AnswerKey, Buffers, Failure, KeyRefusal, LONGEST_LINE, Seeded, cause, key_air, print,
+};
 use field::Act;
 use filed::Filed;
 use history::{Counts, TakenCopy};

@@ -1,8 +1,7 @@
 // The whole key of a field file.
 
-use crate::failure::Failure;
 use air::{Air, DelayRule};
-use answer_key::{AnswerKey, Buffers, KeyRefusal, LONGEST_LINE, Seeded, key_air, print};
+use answer_key::{AnswerKey, Buffers, Failure, KeyRefusal, LONGEST_LINE, Seeded, key_air, print};
 use field::Act;
 use filed::Filed;
 use history::TakenCopy;

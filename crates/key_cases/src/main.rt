@@ -2,12 +2,10 @@
 // beside the field.
 #![tactic(auto)]
 
-mod failure;
 mod keys;
 
-use crate::failure::Failure;
 use crate::keys::{Room, key_of};
-use answer_key::{LOG_ROWS, LONGEST_LINE, cause};
+use answer_key::{Failure, LOG_ROWS, LONGEST_LINE, cause};
 use std::{fs, io};
 
 // Room for one line, and for the copies of one instant; and as much as the program `key` lends.

@@ -1,8 +1,8 @@
 // A field played call by call, under any settling numbering, delay rule and air.
 
-use crate::failure::Failure;
 use crate::telling::{self, Refusal};
 use air::{Air, DelayRule};
+use answer_key::Failure;
 use field::{Damage, Settings};
 use flood::Verdict;
 use history::{Ending, TakenCopy};

@@ -1,11 +1,11 @@
 // The worked field: three sensors, of which 1 and 2 hear each other, and 1 hears the base.
 
 use crate::calls::play_by_calls;
-use crate::failure::Failure;
 use crate::in_order::play_in_order;
 use crate::telling;
 use crate::writing_back::write_back;
 use air::{Collisions, Drawn, Losses, Slowest};
+use answer_key::Failure;
 use field::{Damage, Link, Row, Settings};
 use numbering::Differentiated;
 use refusal::FieldFault;

@@ -1,10 +1,9 @@
 // The worked field, loaded from a field file and played as the file says.
 
-use crate::buffers::load;
 use crate::calls::play_on;
-use crate::failure::Failure;
 use crate::telling;
 use air::{Collisions, Drawn, Losses, Slowest};
+use answer_key::{Buffers, Failure};
 use field::Act;
 use filed::Filed;
 use loading::{FieldFile, FileUnder};
@@ -42,8 +41,7 @@ fn play_field<N: Filed>(
     held: N::Number,
 ) -> Result<(), Failure> {
     let rules = field.rules();
-    let mut buffers = load(rt.alloc(), field, held)?;
-    let mut senders = vec![in rt.alloc(); 0u8; buffers.rows.len()]?;
+    let mut buffers = Buffers::of_file(rt.alloc(), field, held)?;
     let air = Collisions {
         below: Losses {
             listed: &buffers.losses,
@@ -58,7 +56,7 @@ fn play_field<N: Filed>(
         air: &air,
         links: &buffers.links,
         rows: &mut buffers.rows,
-        senders: &mut senders,
+        senders: &mut buffers.senders,
     };
     let mut run = Idle::begin(rules.settings, lent.links.len(), &mut lent)?;
     for act in &buffers.acts {

@@ -1,7 +1,7 @@
 // Each call of a run once, in an order that the types let pass. tests/misuse has orders that they refuse.
 
-use crate::failure::Failure;
 use air::{Air, DelayRule};
+use answer_key::Failure;
 use field::{Damage, Settings};
 use filed::Filed;
 use history::Counts;

@@ -1,17 +1,15 @@
 // The program `play_through`: the worked field, played call by call.
 #![tactic(auto)]
 
-mod buffers;
 mod calls;
-mod failure;
 mod fields;
 mod filed_field;
 mod in_order;
 mod telling;
 mod writing_back;
 
-use crate::failure::Failure;
 use crate::telling::Refusal;
+use answer_key::Failure;
 use std::process::ExitCode;
 use std::{env, io};
 

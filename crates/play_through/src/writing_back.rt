@@ -1,7 +1,6 @@
 // The field of a run as it stands, written and loaded again.
 
-use crate::buffers::load;
-use crate::failure::Failure;
+use answer_key::{Buffers, Failure};
 use field::Settings;
 use loading::{FieldFile, FileUnder};
 use numbering::Differentiated;
@@ -27,7 +26,7 @@ fn loads_as<D, A>(
     settings: Settings,
     lent: &Lent<Differentiated, D, A>,
 ) -> Result<bool, Failure> {
-    let buffers = load(rt.alloc(), field, 0)?;
+    let buffers = Buffers::of_file(rt.alloc(), field, 0)?;
     Ok(
         plain(field.rules().settings) == plain(settings)
             && buffers.rows.as_slice() == &*lent.rows

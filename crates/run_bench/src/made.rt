@@ -1,8 +1,8 @@
 // Two fields of 200 sensors and 1,024 links, made here: a grid with some four copies an instant, and the same one
 // with floods so seldom that hardly any instant has a copy.
 
-use crate::failure::Failure;
 use crate::playing::{Parts, play};
+use answer_key::Failure;
 use field::{Link, Row, Rules, Settings};
 use numbering::Differentiated;
 use refusal::FieldFault;

@@ -2,12 +2,11 @@
 // it also prints how long an instant took, and a copy, in play alone.
 #![tactic(auto)]
 
-mod failure;
 mod filed_field;
 mod made;
 mod playing;
 
-use crate::failure::Failure;
+use answer_key::Failure;
 use refusal::Told;
 use std::process::ExitCode;
 use std::{env, fs, io};

@@ -1,15 +1,13 @@
 // A field played on and on, with a log that is read as it fills.
 
-use crate::failure::Failure;
-use air::{Collisions, DelayRule, Drawn, Losses, Slowest};
+use air::{Air, DelayRule};
+use answer_key::{Failure, LOG_ROWS, Seeded, key_air};
 use field::{Link, Loss, Row, Rules};
 use flood::Verdict;
 use history::{Counts, Ending, TakenCopy};
 use numbering::Numbering;
 use run::{Idle, Lent};
 use std::time::{Duration, Instant};
-
-const LOG_ROWS: usize = 65_536;
 
 // What a field is played with. Its links and losses are looked at alone.
 #[derive(Drop)]
@@ -41,7 +39,7 @@ impl Measured {
     }
 }
 
-// Under the air of the key; a seed of 0 has the slowest delay rule.
+// Under the delay rule and the air of the key.
 pub fn play<N: Numbering>(
     rt: &HostRuntime,
     rules: Rules<N>,
@@ -49,36 +47,13 @@ pub fn play<N: Numbering>(
     instants: u32,
     timed: bool,
 ) -> Result<(), Failure> {
-    if rules.settings.seed == 0 {
-        play_by(rt, rules, &Slowest, parts, instants, timed)
-    } else {
-        let drawn = Drawn {
-            seed: rules.settings.seed,
-        };
-        play_by(rt, rules, &drawn, parts, instants, timed)
-    }
-}
-
-fn play_by<N: Numbering, D: DelayRule>(
-    rt: &HostRuntime,
-    rules: Rules<N>,
-    delay: &D,
-    parts: &mut Parts<N::Number>,
-    instants: u32,
-    timed: bool,
-) -> Result<(), Failure> {
-    let air = Collisions {
-        below: Losses {
-            listed: parts.losses,
-            below: Drawn {
-                seed: rules.settings.seed,
-            },
-        },
-    };
+    let seed = rules.settings.seed;
+    let delay = Seeded { seed };
+    let air = key_air(seed, parts.losses);
     let mut senders = vec![in rt.alloc(); 0u8; parts.rows.len()]?;
     let mut lent = Lent {
         numbering: rules.numbering,
-        delay,
+        delay: &delay,
         air: &air,
         links: parts.links,
         rows: &mut *parts.rows,
@@ -95,7 +70,7 @@ fn play_by<N: Numbering, D: DelayRule>(
 }
 
 // In as many plays as the log takes: each instant fits, since a log has more rows than a field may have links.
-fn play_on<N: Numbering, D: DelayRule, A: air::Air>(
+fn play_on<N: Numbering, D: DelayRule, A: Air>(
     rt: &HostRuntime,
     run: &mut Idle,
     lent: &mut Lent<N, D, A>,

@@ -1,10 +1,11 @@
-// Why the program ends early: a call declined, or reading, writing or memory failed.
+// Why a program that plays fields ends early.
 
-use refusal::RunFault;
+use refusal::{FieldFault, RunFault};
 use run::Declined;
 use std::alloc::AllocError;
 use std::io;
 
+/// A call declined, or reading, writing or memory failed.
 #[derive(Debug, Drop)]
 pub enum Failure {
     Declined(RunFault),
@@ -17,6 +18,13 @@ impl From<RunFault> for Failure {
     }
 }
 
+impl From<FieldFault> for Failure {
+    fn from(fault: FieldFault) -> Failure {
+        Failure::Declined(RunFault::from(fault))
+    }
+}
+
+// Who does not go on with the run lets it go.
 impl<Run: Drop> From<Declined<Run>> for Failure {
     fn from(declined: Declined<Run>) -> Failure {
         Failure::Declined(declined.fault)
