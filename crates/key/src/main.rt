@@ -88,6 +88,9 @@ fn main(rt: HostRuntime) -> io::Result<ExitCode> {
         Err(Failure::Io(error)) if error.kind() == io::ErrorKind::BrokenPipe => Ok(
             ExitCode::SUCCESS,
         ),
-        Err(Failure::Io(error)) => Err(error),
+        Err(Failure::Io(error)) => {
+            eprintln!(rt; "key: {error}")?;
+            Ok(ExitCode::FAILURE)
+        }
     }
 }
