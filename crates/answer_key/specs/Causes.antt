@@ -8,6 +8,6 @@ abbrev pub run_cause : RunFault → List ℕ
 run_cause (Field fault) = cause fault
 run_cause ShortBuffer = codes "a buffer is shorter than the field"
 run_cause LastInstant = codes "instant 4,294,967,295 has been opened already"
-run_cause NoNumber = codes "sensor 0 must send and no number follows"
+run_cause NoNumber = codes "the base is to send, but no number comes behind its own"
 run_cause CopyLeft = codes "a copy is left"
 run_cause NoRoom = codes "the output does not fit"

@@ -2,15 +2,19 @@
 use Rattle.std.specs.Prelude.{◌≡◌, ℕ, zero, suc, ◌+◌, ◌-◌, ◌<◌, ◌≤◌, ◌⊎◌, List, [], ◌∷◌, ◌++◌, length, take, drop, sum_by, Some, None, Ok, Err, Option, Result}
 use Rattle.std.specs.Option.{option_map}
 use Rattle.std.specs.Result.{result_map_both}
+use Rattle.air.specs.Airs.{Carrying}
 use Rattle.field.specs.declared.Act.{Act}
 use Rattle.field.specs.declared.Act.TheVariants.{Play as Plays, Damage as Damages}
 use Rattle.history.specs.Plays.{tried}
 use Rattle.history.specs.Plays.Tried.{Ends}
-use Rattle.history.specs.Worlds.{Lent as Given, World}
+use Rattle.history.specs.Worlds.{Field, Lent as Given, World}
 use Rattle.history.specs.declared.Ending.TheVariants.{LogShort}
 use Rattle.history.specs.declared.TakenCopy.{TakenCopy}
+use Rattle.numbering.specs.Meaning.{Meaning}
 use Rattle.refusal.specs.declared.RunFault.{RunFault}
 use Rattle.refusal.specs.declared.RunFault.TheVariants.{NoRoom}
+use Rattle.run.specs.Standing.{between, field_given, given}
+use Rattle.run.specs.declared.lending.Lent.{Lent}
 use Rattle.run.specs.declared.states.Idle.{Idle}
 use Rattle.answer_key.specs.Keys.{KeyEnd, KeySettles, acts_end, key_of, refusal_at}
 use Rattle.answer_key.specs.Lines.{copy_line, copy_lines, refusal_line}
@@ -39,6 +43,29 @@ pub record Standing (Num : Type 0) : Type 0 where
 
 abbrev pub standing : {Num : Type 0} → Given Num → Bookmark → World Num → List (TakenCopy Num) → List ℕ → Standing Num
 standing lent mark world log page = record { lent = lent; mark = mark; world = world; log = log; page = page }
+
+-- What a key's run is given, where it stands, and where the key does, by what is lent: the numbering, the delay rule and the air by
+-- their meanings.
+module _ {N D A Num : Type 0} (meaning : N → Meaning Num) where
+  abbrev pub key_field : AnswerKey → Lent N D A Num → Field Num
+  key_field key lent = field_given meaning key.run.progress lent
+
+  module _ (period : D → ℕ → ℕ → ℕ → ℕ) (carries : A → Carrying) where
+    abbrev pub key_given : AnswerKey → Lent N D A Num → Given Num
+    key_given key lent = given meaning period carries key.run.progress lent
+
+    abbrev pub key_standing : AnswerKey → Lent N D A Num → List (TakenCopy Num) → List ℕ → Standing Num
+    key_standing key lent log page = standing (key_given key lent) key.mark (between key.run lent) log page
+
+abbrev pub key_world : {N D A Num : Type 0} → AnswerKey → Lent N D A Num → World Num
+key_world key lent = between key.run lent
+
+abbrev pub fault_of : AnswerKey → Option RunFault
+fault_of key = fault_ahead key.mark.ahead
+
+-- the index of the record of the next act, or of the one at which the acts have ended
+abbrev pub index_of : AnswerKey → ℕ
+index_of key = key.mark.index
 
 module _ {Num : Type 0} where
   -- the copies in the log whose lines wait to be printed
@@ -135,8 +162,15 @@ module _ {Num : Type 0} (worth : Num → ℕ) (acts : List (Act Num)) where
 abbrev pub BeginsWhole : {Num : Type 0} → (Num → ℕ) → ℕ → Given Num → Bookmark → World Num → Type 0
 BeginsWhole {Num} worth index lent mark world =
     (acts : List (Act Num)) (log : List (TakenCopy Num)) (page : List ℕ) → let at = standing lent mark world log page in
-    (text_left worth acts at ≡ key_of lent worth index acts world) × (end_of worth acts at ≡ (acts_end lent index acts world))
+    (text_left worth acts at ≡ key_of lent worth index acts world) × (end_of worth acts at ≡ acts_end lent index acts world)
 
 -- The floods of each key settle.
 abbrev pub Settling : {Num : Type 0} → ℕ → Given Num → World Num → Type 0
 Settling {Num} index lent world = (acts : List (Act Num)) → KeySettles lent index acts world
+
+module _ {N D A Num : Type 0} (meaning : N → Meaning Num) (period : D → ℕ → ℕ → ℕ → ℕ) (carries : A → Carrying) (lent : Lent N D A Num) (index : ℕ) where
+  abbrev pub KeyIsWhole : (Num → ℕ) → AnswerKey → Type 0
+  KeyIsWhole worth key = BeginsWhole worth index (key_given meaning period carries key lent) key.mark (key_world key lent)
+
+  abbrev pub FloodsOfKeySettle : AnswerKey → Type 0
+  FloodsOfKeySettle key = Settling index (key_given meaning period carries key lent) (key_world key lent)

@@ -14,7 +14,7 @@ pub fn cause(fault: RunFault) -> &'static str
         RunFault::Field(fault) => fault.cause(),
         RunFault::ShortBuffer => "a buffer is shorter than the field",
         RunFault::LastInstant => "instant 4,294,967,295 has been opened already",
-        RunFault::NoNumber => "sensor 0 must send and no number follows",
+        RunFault::NoNumber => "the base is to send, but no number comes behind its own",
         RunFault::CopyLeft => "a copy is left",
         RunFault::NoRoom => "the output does not fit",
     }

@@ -8,7 +8,7 @@ ghost use Rattle.run.specs.Standing.{SameLoans, between, field_given, field_told
 ghost use Rattle.loading.specs.Loads.{counted};
 ghost use Rattle.answer_key.specs.Files.{first_act};
 ghost use Rattle.answer_key.specs.Begins.{KeyOfFile};
-ghost use Rattle.answer_key.specs.Portions.{BeginsWhole, Portion, Settling, fault_ahead, run_of, standing, waiting};
+ghost use Rattle.answer_key.specs.Portions.{FloodsOfKeySettle, KeyIsWhole, Portion, fault_of, index_of, key_field, key_standing, key_world, run_of, waiting};
 ghost use Rattle.answer_key.specs.Steps.{Damaged, PlaysOn, PrintsLines, PrintsRefusal, act_on, instants_on};
 
 use crate::lines::{KeyRefusal, LONGEST_LINE, print};
@@ -39,8 +39,8 @@ impl AnswerKey {
     ) -> Result<AnswerKey, RunFault>
         ensures value { begun_as lent.new (run_of result) ≡ began lent.old.rows.now lent.old.senders.now (begun (field_told N.Numbering.meaning settings count lent.old) lent.old.rows.now lent.old.senders.now) }
         ensures lent { SameLoans lent.old lent.new }
-        ensures whole { IfOk result (λ key. BeginsWhole N.Number.NumberKind.worth index (given N.Numbering.meaning D.DelayRule.period A.Air.carries key.run.progress lent.new) key.mark (between key.run lent.new)) }
-        ensures settles { IfOk result (λ key. Settling index (given N.Numbering.meaning D.DelayRule.period A.Air.carries key.run.progress lent.new) (between key.run lent.new)) }
+        ensures whole { IfOk result (λ key. KeyIsWhole N.Numbering.meaning D.DelayRule.period A.Air.carries lent.new index N.Number.NumberKind.worth key) }
+        ensures settles { IfOk result (λ key. FloodsOfKeySettle N.Numbering.meaning D.DelayRule.period A.Air.carries lent.new index key) }
     {
         let run = Idle::begin(settings, count, lent)?;
         let mark = Bookmark {
@@ -65,8 +65,8 @@ impl AnswerKey {
     ) -> Result<AnswerKey, RunFault>
         ensures value { begun_as lent.new (run_of result) ≡ began lent.old.rows.now lent.old.senders.now (begun (field_told N.Numbering.meaning file.now.settings (counted file.now.file.now).links lent.old) lent.old.rows.now lent.old.senders.now) }
         ensures lent { SameLoans lent.old lent.new }
-        ensures whole { IfOk result (λ key. BeginsWhole N.Number.NumberKind.worth (first_act file.now.file.now) (given N.Numbering.meaning D.DelayRule.period A.Air.carries key.run.progress lent.new) key.mark (between key.run lent.new)) }
-        ensures settles { IfOk result (λ key. Settling (first_act file.now.file.now) (given N.Numbering.meaning D.DelayRule.period A.Air.carries key.run.progress lent.new) (between key.run lent.new)) }
+        ensures whole { IfOk result (λ key. KeyIsWhole N.Numbering.meaning D.DelayRule.period A.Air.carries lent.new (first_act file.now.file.now) N.Number.NumberKind.worth key) }
+        ensures settles { IfOk result (λ key. FloodsOfKeySettle N.Numbering.meaning D.DelayRule.period A.Air.carries lent.new (first_act file.now.file.now) key) }
         ensures key { KeyOfFile N.Numbering.meaning D.DelayRule.period A.Air.carries N.Number.NumberKind.of N.Number.NumberKind.worth file.now.numbering file.now.file.now file.now.settings lent.old lent.new result }
     {
         let counts = file.counts();
@@ -90,7 +90,7 @@ impl AnswerKey {
         log: &mut [TakenCopy<N::Number>],
         page: &mut [u8],
     ) -> Result<Option<usize>, RunFault>
-        ensures value { Portion N.Number.NumberKind.worth acts.now (standing (given N.Numbering.meaning D.DelayRule.period A.Air.carries self.old.run.progress lent.old) self.old.mark (between self.old.run lent.old) log.old page.old) (standing (given N.Numbering.meaning D.DelayRule.period A.Air.carries self.new.run.progress lent.new) self.new.mark (between self.new.run lent.new) log.new page.new) result }
+        ensures value { Portion N.Number.NumberKind.worth acts.now (key_standing N.Numbering.meaning D.DelayRule.period A.Air.carries self.old lent.old log.old page.old) (key_standing N.Numbering.meaning D.DelayRule.period A.Air.carries self.new lent.new log.new page.new) result }
         ensures lent { SameLoans lent.old lent.new }
     {
         if !self.mark.waiting(log).is_empty() {
@@ -109,7 +109,7 @@ impl AnswerKey {
 
     /// The refusal at which the acts ended, once they have; its line may still wait to be printed.
     pub fn fault(&self) -> Option<RunFault>
-        ensures { result ≡ fault_ahead self.now.mark.ahead }
+        ensures { result ≡ fault_of self.now }
     {
         match self.mark.ahead {
             Ahead::Acts => None,
@@ -119,7 +119,7 @@ impl AnswerKey {
 
     /// The index of the next act's record, or of the one at which the acts ended.
     pub fn index(&self) -> usize
-        ensures { result ≡ self.now.mark.index }
+        ensures { result ≡ index_of self.now }
     {
         self.mark.index
     }
@@ -129,7 +129,7 @@ impl AnswerKey {
         self,
         lent: &Lent<N, D, A>,
     ) -> Result<Counts, Declined<AnswerKey>>
-        ensures { result ≡ or_back self (finishing (field_given N.Numbering.meaning self.run.progress lent.now) (between self.run lent.now)) }
+        ensures { result ≡ or_back self (finishing (key_field N.Numbering.meaning self lent.now) (key_world self lent.now)) }
     {
         let AnswerKey { run, mark } = self;
         match run.finish(lent) {
@@ -150,7 +150,7 @@ impl AnswerKey {
     ) -> Result<Option<usize>, RunFault>
         requires acts { self.old.mark.ahead ≡ Acts }
         requires none { waiting self.old.mark log.old ≡ [] }
-        ensures value { (page : List ℕ) → Portion N.Number.NumberKind.worth acts.now (standing (given N.Numbering.meaning D.DelayRule.period A.Air.carries self.old.run.progress lent.old) self.old.mark (between self.old.run lent.old) log.old page) (standing (given N.Numbering.meaning D.DelayRule.period A.Air.carries self.new.run.progress lent.new) self.new.mark (between self.new.run lent.new) log.new page) result }
+        ensures value { (page : List ℕ) → Portion N.Number.NumberKind.worth acts.now (key_standing N.Numbering.meaning D.DelayRule.period A.Air.carries self.old lent.old log.old page) (key_standing N.Numbering.meaning D.DelayRule.period A.Air.carries self.new lent.new log.new page) result }
         ensures lent { SameLoans lent.old lent.new }
     {
         match acts.get(self.mark.act) {
