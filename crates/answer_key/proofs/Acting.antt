@@ -7,13 +7,13 @@ use Rattle.field.specs.declared.Act.TheVariants.{Play as Plays, Damage as Damage
 use Rattle.field.specs.declared.Damage.{Damage}
 use Rattle.history.specs.Calls.{damaging, opening}
 use Rattle.history.specs.Histories.{Call, Outcome, called, called_between, history, moves_on, plays_on}
-use Rattle.history.specs.PlayLaws.{EndsAs, PlayEnds, together, past}
-use Rattle.history.specs.Plays.{Event, Played, Tried, Went, copies_in, instant_gone, playing, tried}
+use Rattle.history.specs.PlayLaws.{EndsAs, together, past}
+use Rattle.history.specs.Plays.{Event, Played, Tried, Went, copies_in, playing, tried}
 use Rattle.history.specs.Plays.Event.{Damages as Damaged}
 use Rattle.history.specs.Plays.Tried.{Ends, Done}
 use Rattle.history.specs.Worlds.{Lent, World, told_links}
 use Rattle.history.specs.declared.taking.Ending.{Ending}
-use Rattle.history.specs.declared.taking.Ending.TheVariants.{BudgetSpent, LogShort, Refused}
+use Rattle.history.specs.declared.taking.Ending.TheVariants.{BudgetSpent, Refused}
 use Rattle.history.specs.declared.taking.TakenCopy.{TakenCopy}
 use Rattle.history.proofs.Kept.{called_either, no_instant, played, playing_done, playing_ends, tried_done, went_on}
 use Rattle.history.proofs.PlayLaws.{joined, play_laws}

@@ -1,36 +1,34 @@
 -- That each step of a key is a portion of it. Assumes nothing.
-use Rattle.std.proofs.Common.{◌≡◌, ℕ, zero, suc, ◌+◌, ◌*◌, ◌<◌, ◌≤◌, min, ◌⊎◌, inl, inr, Bool, true, false, cond, List, [], ◌∷◌, ◌++◌, get_or, length, take, drop, Some, None, Ok, Err, Option, Result, sym, refl, ap, ◌∙◌, subst, arith, append_assoc, leb, leb-true, leb-false}
-use Rattle.std.proofs.lemmas.List.{append-nil, drop_all, drop-take, length-append, length-take, take-append-drop}
+use Rattle.std.proofs.Common.{◌≡◌, ℕ, zero, suc, ◌+◌, ◌<◌, ◌≤◌, min, inl, inr, Bool, true, false, cond, List, [], ◌∷◌, ◌++◌, get_or, length, take, drop, Some, None, Ok, Err, Result, sym, refl, ap, ◌∙◌, subst, arith, leb, leb-true, leb-false}
+use Rattle.std.proofs.lemmas.List.{drop_all, length-take}
 use Rattle.std.proofs.lemmas.List.Sums.{sum_by-cons}
 use Rattle.std.proofs.Math.Nat.{sub-zero}
 use Rattle.std.proofs.Math.Seq.{take-append_seam}
 use Rattle.std.proofs.lemmas.Option.{slice_get-get_or}
 use Rattle.std.specs.List.{slice_get}
 use Rattle.std.specs.Option.{option_map}
-use Rattle.std.specs.Prelude.{◌-◌, codes, decimal, sum_by}
+use Rattle.std.specs.Prelude.{◌-◌, sum_by}
 use Rattle.field.specs.declared.Act.{Act}
 use Rattle.field.specs.declared.Act.TheVariants.{Play as Plays, Damage as Damages}
 use Rattle.field.specs.declared.Damage.{Damage}
-use Rattle.history.specs.Calls.{AfterCopy, copy_taken, damaging, opening, world_closed, world_damaged, world_opened}
+use Rattle.history.specs.Calls.{AfterCopy, copy_taken, damaging, world_closed, world_damaged, world_opened}
 use Rattle.history.specs.PlayLaws.{EndsAs, PlayEnds}
-use Rattle.history.specs.Plays.{Event, Played, Tried, Went, copies_in, copies_taken, instant_gone, playing, tried}
-use Rattle.history.specs.Plays.Tried.{Ends, Done}
+use Rattle.history.specs.Plays.{Event, Played, Went, copies_in, copies_taken, instant_gone, playing, tried}
+use Rattle.history.specs.Plays.Tried.{Ends}
 use Rattle.history.specs.Worlds.{Lent, World, told_links}
 use Rattle.history.specs.declared.taking.Ending.{Ending}
 use Rattle.history.specs.declared.taking.Ending.TheVariants.{BudgetSpent, LogShort, Refused}
 use Rattle.history.specs.declared.taking.TakenCopy.{TakenCopy}
-use Rattle.history.proofs.Kept.{carried_from, copied, granted_ok, no_instant, ok_is, onward_from, played, playing_done, playing_ends, tried_done, went_on}
+use Rattle.history.proofs.Kept.{carried_from, copied, granted_ok, ok_is, onward_from, played, tried_done}
 use Rattle.history.proofs.PlayLaws.{play_laws}
 use Rattle.refusal.specs.declared.RunFault.{RunFault}
 use Rattle.answer_key.specs.Keys.{acts_end, key_of, next_index, refusal_at}
-use Rattle.answer_key.specs.Lines.{copy_line, copy_lines, refusal_line}
+use Rattle.answer_key.specs.Lines.{copy_lines, refusal_line}
 use Rattle.answer_key.specs.Portions.{Printed, Short, Standing, Whole, acts_left, behind, end_of, ended_at, fault_ahead, standing, steps, steps_left, text_left, waiting}
-use Rattle.answer_key.specs.Steps.{Damaged, LinesPrinted, LinesUnprinted, NotPlayed, PlayedOn, RefusalPrinted, RefusalUnprinted, Unwritten, Written, act_on, instants_on, lines_on, played_on, refused_by}
-use Rattle.answer_key.specs.declared.states.Ahead.{Ahead}
-use Rattle.answer_key.specs.declared.states.Ahead.TheVariants.{Acts, Refusal}
-use Rattle.answer_key.specs.declared.lines.KeyRefusal.{KeyRefusal}
+use Rattle.answer_key.specs.Steps.{Damaged, NotPlayed, PlayedOn, act_on, instants_on, played_on, refused_by}
+use Rattle.answer_key.specs.declared.states.Ahead.TheVariants.{Acts}
 use Rattle.answer_key.specs.declared.states.Bookmark.{Bookmark}
-use Rattle.answer_key.proofs.Acting.{KeyAfter, KeyEnds, damage_declined, damage_done, lines_joined, no_acts, no_lines, play_over, play_part, play_refused}
+use Rattle.answer_key.proofs.Acting.{KeyAfter, damage_declined, damage_done, no_acts, no_lines, play_over, play_part, play_refused}
 
 module _ {Num : Type 0} where
   -- an act as the code finds it

@@ -1,5 +1,5 @@
 -- That what is printed of a key is a portion of it. Assumes nothing.
-use Rattle.std.proofs.Common.{◌≡◌, ℕ, zero, suc, ◌+◌, ◌<◌, ◌≤◌, inl, inr, List, [], ◌∷◌, ◌++◌, true, false, eqb, length, take, drop, sym, refl, ap, ◌∙◌, subst, arith, append_assoc}
+use Rattle.std.proofs.Common.{◌≡◌, ℕ, zero, suc, ◌+◌, ◌<◌, ◌≤◌, inl, inr, List, [], ◌∷◌, ◌++◌, true, false, eqb, length, take, drop, sym, refl, ap, ◌∙◌, arith, append_assoc}
 use Rattle.std.proofs.Math.Seq.{drop-append_seam, drop-drop, take-append_seam}
 use Rattle.std.proofs.lemmas.Bool.{eqb-false, eqb-true}
 use Rattle.std.proofs.lemmas.List.{append-nil, drop-take, length-append, length-take, take-append-drop}
@@ -10,8 +10,8 @@ use Rattle.history.specs.declared.taking.TakenCopy.{TakenCopy}
 use Rattle.refusal.specs.declared.RunFault.{RunFault}
 use Rattle.answer_key.specs.Keys.{refusal_at}
 use Rattle.answer_key.specs.Lines.{copy_line, copy_lines, refusal_line}
-use Rattle.answer_key.specs.Portions.{Printed, Short, Standing, Whole, end_ahead, end_of, line_short, standing, steps_left, text_ahead, text_left, waiting}
-use Rattle.answer_key.specs.Steps.{LinesPrinted, LinesUnprinted, RefusalPrinted, RefusalUnprinted, Unwritten, Written, lines_on}
+use Rattle.answer_key.specs.Portions.{Printed, Short, Standing, Whole, end_ahead, line_short, standing, text_ahead, waiting}
+use Rattle.answer_key.specs.Steps.{LinesPrinted, LinesUnprinted, RefusalPrinted, RefusalUnprinted, Written, lines_on}
 use Rattle.answer_key.specs.declared.lines.KeyRefusal.{KeyRefusal}
 use Rattle.answer_key.specs.declared.states.Ahead.{Ahead}
 use Rattle.answer_key.specs.declared.states.Ahead.TheVariants.{Acts, Refusal, Refused}

@@ -1,5 +1,5 @@
 -- What a key's run is given, as it begins and from call to call. Assumes nothing.
-use Rattle.std.proofs.Common.{◌≡◌, ℕ, List, [], ◌∷◌, None, Some, Ok, Err, Option, Result, sym, refl, ap, ◌∙◌, subst, arith, length, replicate}
+use Rattle.std.proofs.Common.{◌≡◌, ℕ, List, [], ◌∷◌, None, Some, Ok, Err, Option, Result, sym, refl, ap, ◌∙◌, subst, arith, replicate}
 use Rattle.std.proofs.Math.Nat.{sub-zero}
 use Rattle.std.proofs.lemmas.List.{length-replicate}
 use Rattle.air.specs.Airs.{Carrying}

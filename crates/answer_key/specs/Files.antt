@@ -9,7 +9,7 @@ use Rattle.field.specs.declared.Loss.{Loss}
 use Rattle.field.specs.declared.Row.{Row}
 use Rattle.field.specs.declared.Settings.{Settings}
 use Rattle.history.specs.Calls.{beginning}
-use Rattle.history.specs.Worlds.{Field, Lent as Given, World, field_of}
+use Rattle.history.specs.Worlds.{Field, World, field_of}
 use Rattle.loading.specs.Loads.{acts_filled, counted, links_filled, losses_filled, rows_filled}
 use Rattle.numbering.specs.Meaning.{Meaning}
 use Rattle.sections.specs.Parts.{act_records, link_records, loss_records, row_records}

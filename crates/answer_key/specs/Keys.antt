@@ -1,5 +1,5 @@
 -- The key of a run: what the acts of a field come to. Assumes nothing.
-use Rattle.std.specs.Prelude.{◌≡◌, ℕ, suc, ◌*◌, min, List, [], ◌∷◌, length, Some, None, Option}
+use Rattle.std.specs.Prelude.{ℕ, suc, ◌*◌, min, List, [], ◌∷◌, length, Some, None, Option}
 use Rattle.field.specs.declared.Act.{Act}
 use Rattle.field.specs.declared.Act.TheVariants.{Play as Plays, Damage as Damages}
 use Rattle.history.specs.Floods.{floods_told, without_first}

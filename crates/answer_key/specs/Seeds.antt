@@ -1,6 +1,6 @@
 -- What the seed of a field chooses. Assumes nothing.
-use Rattle.std.proofs.Common.{refl, arith}
-use Rattle.std.specs.Prelude.{◌≡◌, ℕ, ◌≤◌, Bool, true, false, List, cond, ◌==◌}
+use Rattle.std.proofs.Common.{arith}
+use Rattle.std.specs.Prelude.{ℕ, ◌≤◌, Bool, true, false, List, cond, ◌==◌}
 use Rattle.air.specs.Airs.{Carrying, collisions_carry, losses_carry}
 use Rattle.air.specs.Delays.{KeepsPeriods, slowest_period}
 use Rattle.air.specs.Draws.{draw, drawn_carries, drawn_period}

@@ -1,4 +1,4 @@
-use Rattle.std.proofs.Common.{◌≡◌, ap, sym, ◌∙◌, rules}
+use Rattle.std.proofs.Common.{ap, sym, ◌∙◌, rules}
 use Rattle.filed.specs.Values.{lawful_of}
 use Rattle.answer_key.proofs.Standing.{file_granted, key_of_file}
 use Rattle.answer_key.proofs.states.AnswerKey.of_file.Goals as goal

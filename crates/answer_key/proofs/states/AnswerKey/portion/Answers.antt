@@ -1,6 +1,6 @@
 use Rattle.std.proofs.Common.{◌≡◌, Err, refl, rules}
 use Rattle.run.specs.Standing.{between, given}
-use Rattle.answer_key.proofs.Printing.{lines_portion, lines_short, no_row, nothing_portion, refusal_portion, refusal_short_of, some_row}
+use Rattle.answer_key.proofs.Printing.{lines_portion, lines_short, no_row, nothing_portion, refusal_portion, some_row}
 use Rattle.answer_key.proofs.states.AnswerKey.portion.Goals as goal
 
 pub returns-in_err-size-clause-value : goal.returns-in_err-size-clause-value
