@@ -1,5 +1,6 @@
 pub mod Begins
 pub mod Causes
+pub mod Failures
 pub mod Files
 pub mod Keys
 pub mod Lines

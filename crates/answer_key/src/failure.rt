@@ -1,4 +1,8 @@
 // Why a program that plays fields ends early.
+ghost use Rattle.std.specs.Prelude.{◌≡◌};
+ghost use Rattle.answer_key.specs.Failures.{IsIo};
+ghost use Rattle.answer_key.specs.declared.failure.Failure.TheVariants.{Declined as Fails, Io};
+ghost use Rattle.refusal.specs.declared.RunFault.TheVariants.{Field};
 
 use refusal::{FieldFault, RunFault};
 use run::Declined;
@@ -13,12 +17,16 @@ pub enum Failure {
 }
 
 impl From<RunFault> for Failure {
+    ghost from_gives = { λ fault r. r ≡ Fails fault };
+
     fn from(fault: RunFault) -> Failure {
         Failure::Declined(fault)
     }
 }
 
 impl From<FieldFault> for Failure {
+    ghost from_gives = { λ fault r. r ≡ Fails (Field fault) };
+
     fn from(fault: FieldFault) -> Failure {
         Failure::Declined(RunFault::from(fault))
     }
@@ -26,18 +34,24 @@ impl From<FieldFault> for Failure {
 
 // Who does not go on with the run lets it go.
 impl<Run: Drop> From<Declined<Run>> for Failure {
+    ghost from_gives = { λ declined r. r ≡ Fails declined.fault };
+
     fn from(declined: Declined<Run>) -> Failure {
         Failure::Declined(declined.fault)
     }
 }
 
 impl From<io::Error> for Failure {
+    ghost from_gives = { λ error r. r ≡ Io error };
+
     fn from(error: io::Error) -> Failure {
         Failure::Io(error)
     }
 }
 
 impl From<AllocError> for Failure {
+    ghost from_gives = { λ error r. IsIo r };
+
     fn from(error: AllocError) -> Failure {
         Failure::Io(io::Error::from(error))
     }
