@@ -2,7 +2,7 @@
 #![tactic(auto)]
 
 use inquiry::Reply;
-use page::{size, write};
+use printing::{ROOM, put_on};
 use std::process::ExitCode;
 use std::{env, io};
 
@@ -42,9 +42,8 @@ impl From<io::Error> for Failure {
 }
 
 fn print(rt: &HostRuntime, reply: &Reply) -> io::Result<()> {
-    let mut page = vec![in rt.alloc(); 0u8; size(reply)]?;
-    write(reply, &mut page);
-    rt.write_all(&page)
+    let mut page = vec![in rt.alloc(); 0u8; ROOM]?;
+    rt.write_all(put_on(rt.alloc(), reply, &mut page)?)
 }
 
 fn answer(rt: &HostRuntime, words: &[String]) -> Result<(), Failure> {

@@ -2,11 +2,12 @@
 // A line `windowed WINDOW HELD BASE` asks the same of a numbering made outside the crate of the four.
 #![tactic(auto)]
 
-use inquiry::{Complaint, Reply, Report};
-use page::{Text, size, write};
+use inquiry::{Complaint, LentReport, Reply};
+use page::Text;
+use printing::{ROOM, put_on};
 use std::alloc::{AllocError, Global};
 use std::io;
-use windowed::{Serial, Windowed};
+use windowed::Windowed;
 
 fn words_of(heap: Global, line: &str) -> Result<Vec<String>, AllocError> {
     line.split_whitespace()
@@ -18,42 +19,38 @@ fn windowed_in(word: &str) -> Option<Windowed> {
     Windowed::new(word.parse::<u16>().ok()?)
 }
 
-fn report_windowed(
-    window: &str,
-    held: &str,
-    base: &str,
-) -> Result<Report<Windowed, Serial>, Complaint> {
-    let numbering = windowed_in(window).ok_or(Complaint::Words)?;
-    Report::new(numbering, held, base)
+fn complain(rt: &HostRuntime, complaint: Complaint) -> io::Result<()> {
+    println!(rt; "bound: {complaint}")
 }
 
-fn print<T: Text + Drop>(rt: &HostRuntime, answer: Result<T, Complaint>) -> io::Result<()> {
+fn print<T: Text + Drop>(
+    rt: &HostRuntime,
+    answer: Result<T, Complaint>,
+    page: &mut Vec<u8>,
+) -> io::Result<()> {
     match answer {
-        Ok(text) => {
-            let mut page = vec![in rt.alloc(); 0u8; size(&text)]?;
-            write(&text, &mut page);
-            rt.write_all(&page)
-        }
-        Err(complaint) => println!(rt; "bound: {complaint}"),
+        Ok(text) => rt.write_all(put_on(rt.alloc(), &text, page)?),
+        Err(complaint) => complain(rt, complaint),
     }
 }
 
-fn run(rt: &HostRuntime, line: &str) -> io::Result<()> {
+fn run(rt: &HostRuntime, line: &str, page: &mut Vec<u8>) -> io::Result<()> {
     println!(rt; "$ bound {line}")?;
     let words = words_of(rt.alloc(), line)?;
     match words.as_slice() {
-        [name, window, held, base] if name.as_str() == "windowed" => {
-            let answer = report_windowed(window.as_str(), held.as_str(), base.as_str());
-            print(rt, answer)
-        }
-        words => print(rt, Reply::new(words)),
+        [name, window, held, base] if name.as_str() == "windowed" => match windowed_in(window) {
+            Some(numbering) => print(rt, LentReport::new(&numbering, held, base), page),
+            None => complain(rt, Complaint::Words),
+        },
+        words => print(rt, Reply::new(words), page),
     }
 }
 
 fn main(rt: HostRuntime) -> io::Result<()> {
+    let mut page = vec![in rt.alloc(); 0u8; ROOM]?;
     for line in rt.lines(rt.alloc()) {
         let line = line?;
-        run(&rt, line.as_str())?;
+        run(&rt, line.as_str(), &mut page)?;
     }
     Ok(())
 }

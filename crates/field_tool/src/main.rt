@@ -6,7 +6,7 @@ mod make;
 use crate::make::make;
 use checking::check_file;
 use listing::Listing;
-use page::{size, write};
+use printing::put_on;
 use refusal::{FieldFault, Told};
 use std::io::Read;
 use std::process::ExitCode;
@@ -56,10 +56,8 @@ fn refuse(rt: &HostRuntime, fault: FieldFault) -> io::Result<ExitCode> {
 }
 
 fn list(rt: &HostRuntime, file: &[u8]) -> io::Result<ExitCode> {
-    let listing = Listing { file };
-    let mut page = vec![in rt.alloc(); 0u8; size(&listing)]?;
-    write(&listing, &mut page);
-    rt.write_all(&page)?;
+    let mut page = Vec::new(rt.alloc());
+    rt.write_all(put_on(rt.alloc(), &Listing { file }, &mut page)?)?;
     Ok(ExitCode::SUCCESS)
 }
 

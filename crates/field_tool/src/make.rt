@@ -5,7 +5,7 @@ use field::{Act, Link, Loss, Row};
 use filed::Filed;
 use loading::{FieldFile, FileUnder};
 use numbering::NumberKind;
-use page::{size, write};
+use printing::put_on;
 use recording::Records;
 use refusal::{FieldFault, RecordFault, RunFault, Told};
 use std::alloc::{AllocError, Global};
@@ -124,10 +124,9 @@ fn refuse(rt: &HostRuntime, fault: FieldFault) -> io::Result<ExitCode> {
 
 // The entries as a file, checked, and written as the field that it loads as.
 fn make_file(rt: &HostRuntime, entries: &[Entry]) -> io::Result<ExitCode> {
-    let records = Records(entries);
-    let mut file = vec![in rt.alloc(); 0u8; size(&records)]?;
-    write(&records, &mut file);
-    let field = match FieldFile::new(&file) {
+    let mut page = Vec::new(rt.alloc());
+    let file = put_on(rt.alloc(), &Records(entries), &mut page)?;
+    let field = match FieldFile::new(file) {
         Ok(field) => field,
         Err(fault) => return refuse(rt, fault),
     };

@@ -3,12 +3,12 @@ use Rattle.std.proofs.Common.{◌≡◌, suc, ◌+◌, ◌<◌, min, List, ◌�
 use Rattle.numbering.specs.Meaning.{Meaning}
 use Rattle.hearing.specs.declared.Heard.{Heard}
 use Rattle.hearing.proofs.Hears.{hearing_most}
-use Rattle.inquiry.specs.declared.reports.Report.{Report}
-use Rattle.inquiry.specs.Written.{listed, listed_floods}
+use Rattle.inquiry.specs.declared.reports.LentReport.{LentReport}
+use Rattle.inquiry.specs.Written.{listed, lent_floods}
 
 -- fewer are told than are listed while one is left
-pub one_left : {N Num : Type 0} (meaning : N → Meaning Num) (r : Report N Num) (told rest : List (Heard Num)) (flood : Heard Num) → told ++ (flood ∷ rest) ≡ listed_floods meaning r → length told < listed
+pub one_left : {N Num : Type 0} (meaning : N → Meaning Num) (r : LentReport N Num) (told rest : List (Heard Num)) (flood : Heard Num) → told ++ (flood ∷ rest) ≡ lent_floods meaning r → length told < listed
 one_left meaning r told rest flood e =
-    let most = hearing_most (meaning r.numbering) (min r.forecast.catch_up listed) r.held r.base in
-    let all : length told + suc (length rest) ≡ length (listed_floods meaning r) = sym (length-append told (flood ∷ rest)) ∙ ap length e in
+    let most = hearing_most (meaning r.numbering.now) (min r.forecast.catch_up listed) r.held r.base in
+    let all : length told + suc (length rest) ≡ length (lent_floods meaning r) = sym (length-append told (flood ∷ rest)) ∙ ap length e in
     omega (arith, most, all)

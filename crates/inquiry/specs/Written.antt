@@ -1,10 +1,12 @@
 -- The text of an answer. Assumes nothing.
 use Rattle.std.specs.Prelude.{ℕ, min, cond, List, [], ◌++◌, length, codes, decimal, ◌==◌, nat_lt}
 use Rattle.numbering.specs.Meaning.{Meaning}
+use Rattle.hearing.specs.declared.Forecast.{Forecast}
 use Rattle.hearing.specs.declared.Heard.{Heard}
 use Rattle.hearing.specs.Hearing.{hearing}
 use Rattle.hearing.specs.Written.{verdict_word}
 use Rattle.page.specs.Pages.{joined}
+use Rattle.inquiry.specs.declared.reports.LentReport.{LentReport}
 use Rattle.inquiry.specs.declared.reports.Report.{Report}
 
 -- at most so many floods are listed
@@ -40,3 +42,14 @@ listed_floods meaning r = hearing (meaning r.numbering) (min r.forecast.catch_up
 -- the text of a report
 abbrev pub report_text : {N Num : Type 0} → (N → Meaning Num) → (Num → ℕ) → Report N Num → List ℕ
 report_text meaning worth r = forecast_text worth r.forecast.patience r.forecast.catch_up (listed_floods meaning r)
+
+-- the same of a report in a numbering that is lent
+abbrev pub lent_floods : {N Num : Type 0} → (N → Meaning Num) → LentReport N Num → List (Heard Num)
+lent_floods meaning r = hearing (meaning r.numbering.now) (min r.forecast.catch_up listed) r.held r.base
+
+abbrev pub lent_text : {N Num : Type 0} → (N → Meaning Num) → (Num → ℕ) → LentReport N Num → List ℕ
+lent_text meaning worth r = forecast_text worth r.forecast.patience r.forecast.catch_up (lent_floods meaning r)
+
+-- the text of two numbers and what is foretold of them
+abbrev pub asked_text : {N Num : Type 0} → (N → Meaning Num) → (Num → ℕ) → N → Num × Num × Forecast → List ℕ
+asked_text meaning worth n p = forecast_text worth p.2.patience p.2.catch_up (hearing (meaning n) (min p.2.catch_up listed) p.0 p.1)

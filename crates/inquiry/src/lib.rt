@@ -8,4 +8,4 @@ mod reports;
 
 pub use complaint::Complaint;
 pub use replies::Reply;
-pub use reports::Report;
+pub use reports::{LentReport, Report};

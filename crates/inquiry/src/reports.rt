@@ -2,7 +2,7 @@
 ghost use Rattle.std.specs.Prelude.{◌≡◌, length};
 ghost use Rattle.page.specs.Pens.{Wrote};
 ghost use Rattle.inquiry.specs.Answers.{texts, forecast_of};
-ghost use Rattle.inquiry.specs.Written.{bound_line, stop_line, flood_line, flood_lines, listed_floods, report_text};
+ghost use Rattle.inquiry.specs.Written.{bound_line, stop_line, flood_line, flood_lines, asked_text, lent_floods, lent_text, report_text};
 
 use crate::complaint::Complaint;
 use crate::reading::both_in;
@@ -13,7 +13,49 @@ use page::{Pen, Text};
 // At most so many floods are listed.
 const LISTED: u64 = 512;
 
-// What is told of a sensor that holds one number under a base that holds another.
+// The numbers of a sensor and a base, in two words, and what is foretold of them.
+fn asked<N: Settling>(
+    numbering: &N,
+    held: &str,
+    base: &str,
+) -> Result<(N::Number, N::Number, Forecast), Complaint>
+    ensures { texts (asked_text N.Numbering.meaning N.Number.NumberKind.worth numbering.now) result ≡ forecast_of N.Settling N.Number.NumberKind numbering.now held.now base.now }
+{
+    let (held, base) = both_in(numbering, held, base)?;
+    let forecast = foretell(numbering, held, base)?;
+    Ok((held, base, forecast))
+}
+
+// What is told of a sensor that holds one number under a base that holds another, in a numbering that is lent: it may be
+// any settling one.
+#[derive(Drop)]
+pub struct LentReport<'n, N, Number> {
+    numbering: &'n N,
+    held: Number,
+    base: Number,
+    forecast: Forecast,
+}
+
+impl<'n, N: Settling> LentReport<'n, N, N::Number> {
+    // Of a sensor and a base that hold the numbers in two words.
+    pub fn new(
+        numbering: &'n N,
+        held: &str,
+        base: &str,
+    ) -> Result<LentReport<'n, N, N::Number>, Complaint>
+        ensures { texts (lent_text N.Numbering.meaning N.Number.NumberKind.worth) result ≡ forecast_of N.Settling N.Number.NumberKind numbering.now held.now base.now }
+    {
+        let (held, base, forecast) = asked(numbering, held, base)?;
+        Ok(LentReport {
+            numbering,
+            held,
+            base,
+            forecast,
+        })
+    }
+}
+
+// The same in a numbering of its own, which is copied.
 #[derive(Clone, Copy)]
 pub struct Report<N, Number> {
     numbering: N,
@@ -27,8 +69,7 @@ impl<N: Settling + Copy> Report<N, N::Number> {
     pub fn new(numbering: N, held: &str, base: &str) -> Result<Report<N, N::Number>, Complaint>
         ensures { texts (report_text N.Numbering.meaning N.Number.NumberKind.worth) result ≡ forecast_of N.Settling N.Number.NumberKind numbering held.now base.now }
     {
-        let (held, base) = both_in(&numbering, held, base)?;
-        let forecast = foretell(&numbering, held, base)?;
+        let (held, base, forecast) = asked(&numbering, held, base)?;
         Ok(Report {
             numbering,
             held,
@@ -89,13 +130,13 @@ fn put_stop(pen: &mut Pen, forecast: Forecast, count: u64)
 
 // A line for each flood that is listed; answers how many they are.
 #[tactic(auto, using(page::proofs::Wrotes::wrote_nothing, crate::proofs::Listed::one_left))]
-fn put_floods<N: Settling>(pen: &mut Pen, report: &Report<N, N::Number>) -> u64
-    ensures lines { Wrote pen.old pen.new (flood_lines N.Number.NumberKind.worth 1 (listed_floods N.Numbering.meaning report.now)) }
-    ensures count { result ≡ length (listed_floods N.Numbering.meaning report.now) }
+fn put_floods<N: Settling>(pen: &mut Pen, report: &LentReport<N, N::Number>) -> u64
+    ensures lines { Wrote pen.old pen.new (flood_lines N.Number.NumberKind.worth 1 (lent_floods N.Numbering.meaning report.now)) }
+    ensures count { result ≡ length (lent_floods N.Numbering.meaning report.now) }
 {
     let most = report.forecast.catch_up.min(LISTED);
     let mut count = 0;
-    for flood in hear_floods(&report.numbering, report.held, report.base, most) {
+    for flood in hear_floods(report.numbering, report.held, report.base, most) {
         count += 1;
         put_flood(pen, count, flood);
     }
@@ -103,12 +144,26 @@ fn put_floods<N: Settling>(pen: &mut Pen, report: &Report<N, N::Number>) -> u64
 }
 
 // Patience and catch-up count, then a line for each flood.
-impl<N: Settling> Text for Report<N, N::Number> {
-    ghost text = { report_text N.Numbering.meaning N.Number.NumberKind.worth };
+impl<'n, N: Settling> Text for LentReport<'n, N, N::Number> {
+    ghost text = { lent_text N.Numbering.meaning N.Number.NumberKind.worth };
 
     fn put(&self, pen: &mut Pen) {
         put_bound(pen, self.forecast);
         let count = put_floods(pen, self);
         put_stop(pen, self.forecast, count)
+    }
+}
+
+impl<N: Settling> Text for Report<N, N::Number> {
+    ghost text = { report_text N.Numbering.meaning N.Number.NumberKind.worth };
+
+    fn put(&self, pen: &mut Pen) {
+        let lent = LentReport {
+            numbering: &self.numbering,
+            held: self.held,
+            base: self.base,
+            forecast: self.forecast,
+        };
+        lent.put(pen)
     }
 }
