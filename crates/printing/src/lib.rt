@@ -1,7 +1,7 @@
 // A text's bytes, for a program to print.
 #![tactic(auto)]
 
-ghost use Rattle.std.specs.Prelude.{◌≡◌, ◌≤◌, min, length, IfOk};
+ghost use Rattle.std.specs.Prelude.{◌≡◌, ◌≤◌, true, min, length, is_ok, IfOk};
 ghost use Rattle.page.specs.Pages.{last, written};
 
 use page::{Pen, Text};
@@ -27,7 +27,8 @@ pub fn put_on<'p, T: Text>(
     text: &T,
     page: &'p mut Vec<u8>,
 ) -> Result<&'p [u8], AllocError>
-    ensures { IfOk result (λ bytes. bytes.now ≡ T.Text.text text.now) }
+    ensures text { IfOk result (λ bytes. bytes.now ≡ T.Text.text text.now) }
+    ensures fits { length (T.Text.text text.now) ≤ length page.old.items → is_ok result ≡ true }
 {
     let size = put_front(text, page);
     if size > page.len() {
