@@ -1,8 +1,8 @@
 // The program `bound`: a numbering's patience and catch-up count for a sensor, flood by flood.
 #![tactic(auto)]
 
-use inquiry::Reply;
-use printing::{ROOM, put_on};
+use inquiry::{ANSWER_ROOM, Reply};
+use printing::put_on;
 use std::process::ExitCode;
 use std::{env, io};
 
@@ -42,8 +42,9 @@ impl From<io::Error> for Failure {
 }
 
 fn print(rt: &HostRuntime, reply: &Reply) -> io::Result<()> {
-    let mut page = vec![in rt.alloc(); 0u8; ROOM]?;
-    rt.write_all(put_on(rt.alloc(), reply, &mut page)?)
+    let mut page = vec![in rt.alloc(); 0u8; ANSWER_ROOM]?;
+    let size = put_on(rt.alloc(), reply, &mut page)?;
+    rt.write_all(&page[..size])
 }
 
 fn answer(rt: &HostRuntime, words: &[String]) -> Result<(), Failure> {

@@ -2,9 +2,9 @@
 // A line `windowed WINDOW HELD BASE` asks the same of a numbering made outside the crate of the four.
 #![tactic(auto)]
 
-use inquiry::{Complaint, LentReport, Reply};
+use inquiry::{ANSWER_ROOM, Complaint, LentReport, Reply};
 use page::Text;
-use printing::{ROOM, put_on};
+use printing::put_on;
 use std::alloc::{AllocError, Global};
 use std::io;
 use windowed::Windowed;
@@ -29,7 +29,10 @@ fn print<T: Text + Drop>(
     page: &mut Vec<u8>,
 ) -> io::Result<()> {
     match answer {
-        Ok(text) => rt.write_all(put_on(rt.alloc(), &text, page)?),
+        Ok(text) => {
+            let size = put_on(rt.alloc(), &text, page)?;
+            rt.write_all(&page[..size])
+        }
         Err(complaint) => complain(rt, complaint),
     }
 }
@@ -47,7 +50,7 @@ fn run(rt: &HostRuntime, line: &str, page: &mut Vec<u8>) -> io::Result<()> {
 }
 
 fn main(rt: HostRuntime) -> io::Result<()> {
-    let mut page = vec![in rt.alloc(); 0u8; ROOM]?;
+    let mut page = vec![in rt.alloc(); 0u8; ANSWER_ROOM]?;
     for line in rt.lines(rt.alloc()) {
         let line = line?;
         run(&rt, line.as_str(), &mut page)?;

@@ -57,7 +57,8 @@ fn refuse(rt: &HostRuntime, fault: FieldFault) -> io::Result<ExitCode> {
 
 fn list(rt: &HostRuntime, file: &[u8]) -> io::Result<ExitCode> {
     let mut page = Vec::new(rt.alloc());
-    rt.write_all(put_on(rt.alloc(), &Listing { file }, &mut page)?)?;
+    let size = put_on(rt.alloc(), &Listing { file }, &mut page)?;
+    rt.write_all(&page[..size])?;
     Ok(ExitCode::SUCCESS)
 }
 

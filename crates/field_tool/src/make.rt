@@ -125,7 +125,8 @@ fn refuse(rt: &HostRuntime, fault: FieldFault) -> io::Result<ExitCode> {
 // The entries as a file, checked, and written as the field that it loads as.
 fn make_file(rt: &HostRuntime, entries: &[Entry]) -> io::Result<ExitCode> {
     let mut page = Vec::new(rt.alloc());
-    let file = put_on(rt.alloc(), &Records(entries), &mut page)?;
+    let size = put_on(rt.alloc(), &Records(entries), &mut page)?;
+    let file = &page[..size];
     let field = match FieldFile::new(file) {
         Ok(field) => field,
         Err(fault) => return refuse(rt, fault),

@@ -1,5 +1,5 @@
 -- What `bound` answers to its words. Assumes nothing.
-use Rattle.std.specs.Prelude.{ℕ, ◌^◌, Bool, min, List, Some, None, Ok, Err, Option, Result}
+use Rattle.std.specs.Prelude.{ℕ, ◌≡◌, ◌^◌, Bool, min, List, Some, None, Ok, Err, Option, Result}
 use Rattle.numbering.specs.Four.{free, linear, linear_patience, linear_catch_up, ring, half, circular_fresh, circular_catch_up, differs}
 use Rattle.numbering.specs.Kinds.{below, zero_of}
 use Rattle.numbering.specs.Meaning.{Meaning}
@@ -10,7 +10,9 @@ use Rattle.inquiry.specs.declared.complaint.Complaint.TheVariants.{Words, Number
 use Rattle.inquiry.specs.declared.reading.Name.{Name}
 use Rattle.inquiry.specs.declared.reading.Name.TheVariants.{Free, Linear, Circular, Differentiated}
 use Rattle.inquiry.specs.Reading.{lawful_in, smax_in, named, first_of, pair_of}
-use Rattle.inquiry.specs.Written.{listed, forecast_text, free_text}
+use Rattle.hearing.specs.declared.Forecast.{Forecast}
+use Rattle.inquiry.specs.declared.reports.LentReport.{LentReport}
+use Rattle.inquiry.specs.Written.{listed, forecast_text, free_text, told_text, lent_text}
 
 -- a text, or why there is none
 abbrev pub Answer : Type 0
@@ -34,6 +36,19 @@ settling m G C of worth held base =
 -- The same by the members of a settling numbering, which a clause writes `N.Settling`, and of its number kind.
 abbrev pub forecast_of : {N Num : Type 0} → record { meaning : N → Meaning Num; patience : N → ℕ; catchup : N → Num → Num → ℕ } → KindOf Num → N → List ℕ → List ℕ → Answer
 forecast_of s k n = settling (s.meaning n) (s.patience n) (s.catchup n) k.of k.worth
+
+-- a settling numbering, as a clause writes it
+abbrev pub SettlingOf : Type 0 → Type 0 → Type 0
+SettlingOf N Num = record { meaning : N → Meaning Num; patience : N → ℕ; catchup : N → Num → Num → ℕ }
+
+-- What is answered of two words has the text of their forecast, or it is the complaint: of the two numbers and what is foretold, and of a
+-- report in a numbering that is lent.
+module _ {N Num : Type 0} (s : SettlingOf N Num) (k : KindOf Num) (n : N) (held base : List ℕ) where
+  abbrev pub Asked : Result (Num × Num × Forecast) Complaint → Type 0
+  Asked result = texts (λ a. told_text (s.meaning n) a.0 a.1 a.2 k.worth) result ≡ forecast_of s k n held base
+
+  abbrev pub Lent : Result (LentReport N Num) Complaint → Type 0
+  Lent result = texts (lent_text s.meaning k.worth) result ≡ forecast_of s k n held base
 
 -- two words, no fewer and no more
 abbrev pub two : (List ℕ → List ℕ → Answer) → List (List ℕ) → Answer

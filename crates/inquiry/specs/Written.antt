@@ -35,21 +35,27 @@ module _ {Num : Type 0} (worth : Num → ℕ) where
 abbrev pub free_text : List ℕ
 free_text = codes "free does not settle: it has no patience and no catch-up count\n"
 
+-- of a sensor and a base that hold two numbers, and what is foretold of them
+module _ {Num : Type 0} (m : Meaning Num) (held base : Num) (forecast : Forecast) where
+  -- the floods that are listed
+  abbrev pub told_floods : List (Heard Num)
+  told_floods = hearing m (min forecast.catch_up listed) held base
+
+  -- the text
+  abbrev pub told_text : (Num → ℕ) → List ℕ
+  told_text worth = forecast_text worth forecast.patience forecast.catch_up told_floods
+
 -- the floods that a report lists
 abbrev pub listed_floods : {N Num : Type 0} → (N → Meaning Num) → Report N Num → List (Heard Num)
-listed_floods meaning r = hearing (meaning r.numbering) (min r.forecast.catch_up listed) r.held r.base
+listed_floods meaning r = told_floods (meaning r.numbering) r.held r.base r.forecast
 
 -- the text of a report
 abbrev pub report_text : {N Num : Type 0} → (N → Meaning Num) → (Num → ℕ) → Report N Num → List ℕ
-report_text meaning worth r = forecast_text worth r.forecast.patience r.forecast.catch_up (listed_floods meaning r)
+report_text meaning worth r = told_text (meaning r.numbering) r.held r.base r.forecast worth
 
 -- the same of a report in a numbering that is lent
 abbrev pub lent_floods : {N Num : Type 0} → (N → Meaning Num) → LentReport N Num → List (Heard Num)
-lent_floods meaning r = hearing (meaning r.numbering.now) (min r.forecast.catch_up listed) r.held r.base
+lent_floods meaning r = told_floods (meaning r.numbering.now) r.held r.base r.forecast
 
 abbrev pub lent_text : {N Num : Type 0} → (N → Meaning Num) → (Num → ℕ) → LentReport N Num → List ℕ
-lent_text meaning worth r = forecast_text worth r.forecast.patience r.forecast.catch_up (lent_floods meaning r)
-
--- the text of two numbers and what is foretold of them
-abbrev pub asked_text : {N Num : Type 0} → (N → Meaning Num) → (Num → ℕ) → N → Num × Num × Forecast → List ℕ
-asked_text meaning worth n p = forecast_text worth p.2.patience p.2.catch_up (hearing (meaning n) (min p.2.catch_up listed) p.0 p.1)
+lent_text meaning worth r = told_text (meaning r.numbering.now) r.held r.base r.forecast worth

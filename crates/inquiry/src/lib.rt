@@ -8,4 +8,4 @@ mod reports;
 
 pub use complaint::Complaint;
 pub use replies::Reply;
-pub use reports::{LentReport, Report};
+pub use reports::{ANSWER_ROOM, LentReport, Report};

@@ -1,8 +1,8 @@
 // A forecast, as text.
 ghost use Rattle.std.specs.Prelude.{◌≡◌, length};
 ghost use Rattle.page.specs.Pens.{Wrote};
-ghost use Rattle.inquiry.specs.Answers.{texts, forecast_of};
-ghost use Rattle.inquiry.specs.Written.{bound_line, stop_line, flood_line, flood_lines, asked_text, lent_floods, lent_text, report_text};
+ghost use Rattle.inquiry.specs.Answers.{texts, forecast_of, Asked, Lent};
+ghost use Rattle.inquiry.specs.Written.{bound_line, stop_line, flood_line, flood_lines, lent_floods, lent_text, report_text};
 
 use crate::complaint::Complaint;
 use crate::reading::both_in;
@@ -13,21 +13,25 @@ use page::{Pen, Text};
 // At most so many floods are listed.
 const LISTED: u64 = 512;
 
+/// As many bytes as an answer has at most: 512 lines of 56 bytes, one of 61 before them and one of 32 behind. It is not proved, and only
+/// spares time: a page of so many bytes has not to be made longer.
+pub const ANSWER_ROOM: usize = 28_765;
+
 // The numbers of a sensor and a base, in two words, and what is foretold of them.
 fn asked<N: Settling>(
     numbering: &N,
     held: &str,
     base: &str,
 ) -> Result<(N::Number, N::Number, Forecast), Complaint>
-    ensures { texts (asked_text N.Numbering.meaning N.Number.NumberKind.worth numbering.now) result ≡ forecast_of N.Settling N.Number.NumberKind numbering.now held.now base.now }
+    ensures { Asked N.Settling N.Number.NumberKind numbering.now held.now base.now result }
 {
     let (held, base) = both_in(numbering, held, base)?;
     let forecast = foretell(numbering, held, base)?;
     Ok((held, base, forecast))
 }
 
-// What is told of a sensor that holds one number under a base that holds another, in a numbering that is lent: it may be
-// any settling one.
+/// What is told of a sensor that holds one number under a base that holds another, in a numbering that is lent: it may be any settling
+/// one. Its text (`lent_text`) is patience and catch-up count, then a line for each of at most 512 floods.
 #[derive(Drop)]
 pub struct LentReport<'n, N, Number> {
     numbering: &'n N,
@@ -37,13 +41,14 @@ pub struct LentReport<'n, N, Number> {
 }
 
 impl<'n, N: Settling> LentReport<'n, N, N::Number> {
-    // Of a sensor and a base that hold the numbers in two words.
+    /// Of a sensor and a base that hold the numbers in two words, decimal and of 32 bits. The text of what it answers is the forecast of
+    /// these numbers (`Lent`), or it answers `Held` or `Base`, whichever is first no lawful number.
     pub fn new(
         numbering: &'n N,
         held: &str,
         base: &str,
     ) -> Result<LentReport<'n, N, N::Number>, Complaint>
-        ensures { texts (lent_text N.Numbering.meaning N.Number.NumberKind.worth) result ≡ forecast_of N.Settling N.Number.NumberKind numbering.now held.now base.now }
+        ensures { Lent N.Settling N.Number.NumberKind numbering.now held.now base.now result }
     {
         let (held, base, forecast) = asked(numbering, held, base)?;
         Ok(LentReport {
